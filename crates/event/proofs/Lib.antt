@@ -1,0 +1,5 @@
+pub mod Turns
+pub mod Runs
+pub mod Sums
+pub mod Whole
+pub mod Exposure

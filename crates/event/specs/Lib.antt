@@ -1,0 +1,5 @@
+pub mod Clock
+pub mod Window
+pub mod Stretch
+pub mod Run
+pub mod Event

@@ -1,0 +1,103 @@
+-- The leading digits of a number: one digit fewer, and the level that they show. Assumes nothing.
+use mathlib.Core.Path.{_≡_, sym, _∙_}
+use Prim.Native.Nat.{ℕ, suc, _+_, _-_, _*_, _/_, _^_, _≤_, _<_}
+use native.Mathlib.Nat.{
+  add-assoc,
+  add-zero,
+  one-mul,
+  pow-zero,
+  pow-suc,
+  one-le-pow,
+  div-one,
+  mul-div-cancel,
+  le-div-iff-mul-le,
+  div-lt-iff-lt-mul,
+  div-div-eq-div-mul,
+  lt-of-not-le,
+}
+use native.Mathlib.Numerals.{add-one}
+use native.Mathlib.Omega.{arith}
+use lib.Dec.{lit<, lit≤}
+use Rattle.quantity.specs.Answers.{Reading, level, below-scale}
+use Rattle.power.specs.Power.{m, e, G}
+use Rattle.power.proofs.Scale.{e-zero, e-at, m-zero, m-thousand}
+use Rattle.level.specs.Level.{levelOf}
+use Rattle.level.specs.Leading.{Leads, Found}
+use Rattle.level.proofs.Answer.{answered}
+
+positive : (t : ℕ) → 0 < 10 ^ t
+positive t = one-le-pow t 10 (lit< tt)
+
+-- a number by itself, and with tens behind it
+pub leads-product : (digits tens : ℕ) → (0 < tens → G ≤ digits) → Leads (digits * 10 ^ tens) digits tens
+leads-product digits tens h = record { cut = sym (mul-div-cancel digits (positive tens)); kept = h }
+
+-- one digit fewer
+pub leads-fewer : {n digits tens : ℕ} → 10 * G ≤ digits → Leads n digits tens → Leads n (digits / 10) (tens + 1)
+leads-fewer {n} {digits} {tens} h l =
+    record {
+      cut = rw (l .cut, add-one, pow-suc) (div-div-eq-div-mul n (10 ^ tens) 10);
+      kept = λ _. omega arith;
+    }
+
+-- the loop that leaves out digits, one a turn: at the start fewer than twenty, at the end ten
+pub record Shortening (first start digits tens : ℕ) : Type 0 where
+  pub same : (n : ℕ) → Leads n first start → Leads n digits tens
+  pub from : start ≤ tens
+  pub most : tens ≤ start + 10
+  pub room : digits < 10 ^ (start + 20 - tens)
+
+pub shortening-starts : {first start : ℕ} → first < 2 ^ 64 → Shortening first start first start
+shortening-starts {first} {start} h =
+    let k : start + 20 - start ≡ 20 = omega arith in
+    record { same = λ n l. l; from = omega arith; most = omega arith; room = rw k (omega arith) }
+
+module _ {first start digits tens : ℕ} (p : Shortening first start digits tens) where
+  pub shortening-few : 10 * G ≤ digits → tens < start + 10
+  shortening-few h = lt-of-not-le (λ l.
+      let k : start + 20 - tens ≡ 10 = omega arith in
+      omega (arith, rw k at p.room))
+
+  pub shortening-turn : 10 * G ≤ digits → Shortening first start (digits / 10) (tens + 1)
+  shortening-turn h =
+      let few = shortening-few h in
+      let k : start + 20 - tens ≡ suc (start + 20 - (tens + 1)) = omega arith in
+      record {
+        same = λ n l. leads-fewer h (p .same n l);
+        from = omega arith;
+        most = omega arith;
+        room = div-lt-iff-lt-mul (lit< tt) .1 (rw (k, pow-suc) at p.room);
+      }
+
+-- the halving search: the place lies from low on and before high
+pub record Between (digits low high : ℕ) : Type 0 where
+  pub order : low < high
+  pub end : high ≤ 1000
+  pub reached : m low ≤ digits
+  pub missed : digits < m high
+
+pub between-starts : {digits : ℕ} → (G ≤ digits) × (digits < 10 * G) → Between digits 0 1000
+between-starts h = record { order = lit< tt; end = lit≤ tt; reached = rw m-zero (h .0); missed = rw m-thousand (h .1) }
+
+pub between-ends : {digits low high : ℕ} → Between digits low high → high ≤ low + 1 → Found digits low
+between-ends {digits} {low} {high} p h =
+    let e : high ≡ low + 1 = omega (arith, p .order) in
+    record { place = omega (arith, p .order, p .end); low = p .reached; high = rw (← e) (p .missed) }
+
+-- ten digits or fewer are below the scale where they do not reach its first mantissa
+pub digits-below : {n digits tens : ℕ} → digits < G → Leads n digits tens → below-scale ≡ levelOf 0 1 n
+digits-below {n} {digits} {tens} h l =
+    let some : 0 < tens → ⊥ = λ z. omega (arith, l .kept z) in
+    let none : tens ≡ 0 = omega arith in
+    let all : digits ≡ n = l .cut ∙ (rw (none, pow-zero) (div-one n)) in
+    answered 0 1 n below-scale (lit< tt) (rw e-zero (omega arith))
+
+-- and else show the level
+pub digits-level : {n digits tens f : ℕ} → Found digits f → Leads n digits tens → level (1000 * tens + f) ≡ levelOf 0 1 n
+digits-level {n} {digits} {tens} {f} p l =
+    let c = 1000 * tens + f in
+    let low : m f * 10 ^ tens ≤ n = le-div-iff-mul-le (positive tens) .0 (rw (l .cut) at (p .low)) in
+    let high : n < m (f + 1) * 10 ^ tens = div-lt-iff-lt-mul (positive tens) .0 (rw (l .cut) at (p .high)) in
+    let at : e c ≡ m f * 10 ^ tens = e-at tens f (omega arith) in
+    let next : e (c + 1) ≡ m (f + 1) * 10 ^ tens = rw (add-assoc (1000 * tens) f 1) (e-at tens (f + 1) (omega arith)) in
+    answered 0 1 n (level c) (lit< tt) (rw (add-zero c, one-mul (e c), at) low, rw (add-zero (c + 1), one-mul (e (c + 1)), next) high)

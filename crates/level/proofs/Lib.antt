@@ -1,0 +1,4 @@
+pub mod Answer
+pub mod Bounds
+pub mod Digits
+pub mod Quotient

@@ -1,0 +1,68 @@
+-- A quotient in limbs, cut by nine digits a turn until it fits 64 bits. Assumes nothing.
+use mathlib.Core.Path.{_≡_, refl, ap, sym, _∙_}
+use mathlib.Core.List.{List}
+use Prim.Native.Nat.{ℕ, _+_, _*_, _/_, _%_, _^_, _≤_, _<_}
+use native.Mathlib.Nat.{
+  pow-zero,
+  div-one,
+  div-eq-of-lt,
+  div-div-eq-div-mul,
+  mod-lt,
+  mod-eq-of-lt,
+  pow-le-pow-right,
+  one-le-pow,
+  lt-of-lt-of-le,
+  le-trans,
+  lt-of-not-le,
+}
+use native.Mathlib.Omega.{arith}
+use lib.Dec.{lit<, lit≤}
+use lib.ListN.{length}
+use lib.Pow.{pow-add}
+use Rattle.power.specs.Power.{G}
+use Rattle.limbs.specs.Value.{base, value, limbsOf}
+use Rattle.limbs.proofs.Digits.{value-limbsOf}
+use Rattle.level.specs.Leading.{Leads}
+
+-- the limbs q are the leading digits of the number of first, whose six limbs are fewer than 58 digits
+pub record Reducing (first q : List ℕ) (tens : ℕ) : Type 0 where
+  pub size : length q ≡ 6
+  pub leads : Leads (value first) (value q) tens
+  pub room : value first < base ^ 6
+  pub most : tens ≤ 66
+
+-- a quotient by itself
+pub reducing-starts : (q : List ℕ) (n k : ℕ) → k ≡ 6 → length q ≡ k → q ≡ limbsOf k n → Reducing q q 0
+reducing-starts q n k s l h =
+    record {
+      size = l ∙ s;
+      leads = record { cut = rw pow-zero (sym (div-one (value q))); kept = λ z. absurd (omega arith) };
+      room = rw (h, value-limbsOf k n, s) (mod-lt n (one-le-pow 6 base (lit< tt)));
+      most = omega arith;
+    }
+
+module _ {first q : List ℕ} {tens : ℕ} (p : Reducing first q tens) where
+  -- a number that passes 64 bits has had fewer than 58 digits left out
+  pub reducing-few : base * base ≤ value q → tens < 58
+  reducing-few h = lt-of-not-le (λ l.
+      let none : value first / 10 ^ tens ≡ 0 =
+      div-eq-of-lt (lt-of-lt-of-le (p .room) (le-trans {m = 10 ^ 58} (lit≤ tt) (pow-le-pow-right {n = 10} (lit< tt) l))) in
+      omega (arith, p .leads .cut ∙ none))
+
+  pub reducing-turn : {r : List ℕ} → length r ≡ length q → base * base ≤ value q → value r ≡ value q / 10 ^ 9 → Reducing first r (tens + 9)
+  reducing-turn l h e =
+      record {
+        size = l ∙ p .size;
+        leads =
+            record {
+              cut = e ∙ ap (λ (n : ℕ). n / 10 ^ 9) (p .leads .cut) ∙ div-div-eq-div-mul (value first) (10 ^ tens) (10 ^ 9) ∙ (rw (pow-add 10 tens 9) refl);
+              kept = λ _. omega arith;
+            };
+        room = p .room;
+        most = omega (arith, reducing-few h);
+      }
+
+  pub reducing-ends : value q < base * base → {d : ℕ} → d ≡ value q % (base * base) → Leads (value first) d tens
+  reducing-ends h e =
+      let same = e ∙ mod-eq-of-lt h in
+      record { cut = same ∙ p .leads .cut; kept = λ z. rw same (p .leads .kept z) }

@@ -1,0 +1,27 @@
+-- `level::level_over` meets its contract: the divisor is divided out first, and the offset taken off last. Assumes nothing.
+use mathlib.Core.Path.{ap, _∙_}
+use Rattle.level.specs.Leading.{lowered}
+use Rattle.level.proofs.Answer.{divided, offset-taken}
+use borrow.Author.Needs.{needs}
+use Rattle.level.proofs.level_over.Statement.{statement}
+use Rattle.level.proofs.level_over.Tie as tie
+
+leading-quotient-requires : tie.Need-leading-quotient-requires
+leading-quotient-requires c κs = search needs
+
+level-of-leading-requires : tie.Need-level-of-leading-requires
+level-of-leading-requires c κs = search needs
+
+lowered-by-requires : tie.Need-lowered-by-requires
+lowered-by-requires c κs = search needs
+
+returns : tie.Need-returns
+returns c =
+    let some = c .before .before .before .pre in
+    let level = c .before .level-of-leading .ensures _ (c .before .before .leading-quotient .ensures .0) in
+    c .lowered-by .ensures ∙ ap (lowered _) (level ∙ divided _ _ some) ∙ offset-taken _ _ _ some
+
+pub level-over-spec : {M : Type 1} → statement M
+level-over-spec =
+    tie.close
+    (tie.spec leading-quotient-requires level-of-leading-requires lowered-by-requires returns)

@@ -1,0 +1,113 @@
+// The level of a sum over a divisor: the quotient is cut to its ten leading digits, and these are looked up among the mantissas.
+ghost use mathlib.Core.Path.{_≡_};
+ghost use Prim.Native.Nat.{ℕ, _+_, _*_, _/_, _^_, _≤_, _<_};
+ghost use Rattle.quantity.specs.Answers.{reading};
+ghost use Rattle.power.specs.Power.{G};
+ghost use Rattle.limbs.specs.Value.{value};
+ghost use Rattle.level.specs.Level.{levelOf};
+ghost use Rattle.level.specs.Leading.{Leads, Found, lowered};
+use quantity::Level;
+use quantity::LevelAnswer;
+
+// A number cut to its leading digits, and the count of decimal digits that were left out.
+pub struct Leading {
+    pub digits: u64,
+    pub tens: u32,
+}
+
+// The place of the largest mantissa that is at most the digits. The range from low to high halves with each turn.
+fn mantissa_place(digits: u64) -> u32
+    requires { ⌜ (G ≤ digits) × (digits < 10 * G) ⌝ }
+    ensures { λ r. ⌜ Found digits r ⌝ }
+{
+    let mut low: u32 = 0;
+    let mut high: u32 = 1000;
+    while low + 1 < high {
+        let middle = (low + high) / 2;
+        if power::mantissa(middle as usize) <= digits {
+            low = middle;
+        } else {
+            high = middle;
+        }
+    }
+    low
+}
+
+// The same number, cut to ten digits at the most.
+fn ten_digits(number: Leading) -> Leading
+    requires { ⌜ number .tens ≤ 100 ⌝ }
+    ensures same { λ r. ⌜ ((n : ℕ) → Leads n (number .digits) (number .tens) → Leads n (r .digits) (r .tens)) ⌝ }
+    ensures short { λ r. ⌜ (r .digits < 10 * G) × (r .tens ≤ 120) ⌝ }
+{
+    let mut digits = number.digits;
+    let mut tens = number.tens;
+    while 10000000000 <= digits {
+        digits /= 10;
+        tens += 1;
+    }
+    Leading { digits, tens }
+}
+
+// The level of a number of which the leading digits are given.
+fn level_of_leading(number: Leading) -> LevelAnswer
+    requires { ⌜ number .tens ≤ 100 ⌝ }
+    ensures { λ r. ⌜ ((n : ℕ) → Leads n (number .digits) (number .tens) → reading r ≡ levelOf 0 1 n) ⌝ }
+{
+    let short = ten_digits(number);
+    let digits = short.digits;
+    let tens = short.tens;
+    if digits < 1000000000 {
+        return LevelAnswer::BelowScale;
+    }
+    LevelAnswer::At(Level(1000 * tens + mantissa_place(digits)))
+}
+
+// The level of digits * 10^tens; a number that has tens has ten digits before them.
+pub fn level_of_product(digits: u64, tens: u32) -> LevelAnswer
+    requires { ⌜ (tens ≤ 100) × (0 < tens → G ≤ digits) ⌝ }
+    ensures { λ r. ⌜ reading r ≡ levelOf 0 1 (digits * 10 ^ tens) ⌝ }
+{
+    level_of_leading(Leading { digits, tens })
+}
+
+// A level less an offset, or below scale.
+fn lowered_by(answer: LevelAnswer, offset: u32) -> LevelAnswer
+    ensures { λ r. ⌜ reading r ≡ lowered offset (reading answer) ⌝ }
+{
+    match answer {
+        LevelAnswer::At(level) => if offset <= level.0 {
+            LevelAnswer::At(Level(level.0 - offset))
+        } else {
+            LevelAnswer::BelowScale
+        },
+        LevelAnswer::BelowScale => LevelAnswer::BelowScale,
+    }
+}
+
+// The quotient of a sum by a divisor, without its lowest digits where it passes 64 bits.
+fn leading_quotient(sum: [u32; 6], divisor: u32) -> Leading
+    requires { ⌜ 0 < divisor ⌝ }
+    ensures { λ r. ⌜ Leads (value sum / divisor) (r .digits) (r .tens) × (r .tens ≤ 100) ⌝ }
+{
+    let mut quotient = sum;
+    limbs::divide(&mut quotient, divisor);
+    let mut tens: u32 = 0;
+    while !limbs::fits_u64(&quotient) {
+        limbs::divide(&mut quotient, 1000000000);
+        tens += 9;
+    }
+    Leading {
+        digits: limbs::low_u64(&quotient),
+        tens,
+    }
+}
+
+// The level of a sum over a divisor, with an offset on the table.
+pub fn level_over(sum: [u32; 6], divisor: u32, offset: u32) -> LevelAnswer
+    requires { ⌜ 0 < divisor ⌝ }
+    ensures { λ r. ⌜ reading r ≡ levelOf offset divisor (value sum) ⌝ }
+{
+    let quotient = leading_quotient(sum, divisor);
+    let answer = level_of_leading(quotient);
+    lowered_by(answer, offset)
+}

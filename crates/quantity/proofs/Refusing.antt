@@ -1,0 +1,41 @@
+-- A table of rules, one row after the other. Assumes nothing.
+use mathlib.Core.Path.{_≡_, refl, ap}
+use mathlib.Core.Bool.{Bool, true, false}
+use mathlib.Core.List.{List, [], _∷_}
+use Prim.Native.Nat.{ℕ, _<_}
+use native.Mathlib.Omega.{arith}
+use Rattle.quantity.specs.Choice.{pick}
+use Rattle.quantity.specs.Rules.{Rule, firstOf}
+
+-- a rule that does not refuse is passed over, one that refuses is the answer, and no rule refuses at the end of the table
+pub skip : (r : Rule) (rs : List Rule) → r .refuses ≡ false → firstOf (r ∷ rs) ≡ firstOf rs
+unfolding firstOf
+skip r rs h = ap (λ (b : Bool). pick b (r .number) (firstOf rs)) h
+
+pub stop : (r : Rule) (rs : List Rule) → r .refuses ≡ true → firstOf (r ∷ rs) ≡ r .number
+unfolding firstOf
+stop r rs h = ap (λ (b : Bool). pick b (r .number) (firstOf rs)) h
+
+pub end : firstOf [] ≡ 0
+unfolding firstOf
+end = refl
+
+-- no rule of a table refuses
+abbrev pub Pass : List Rule → Type 0
+Pass [] = Unit
+Pass (r ∷ rs) = (r .refuses ≡ false) × Pass rs
+
+-- each number of a table is not 0
+abbrev pub Numbered : List Rule → Type 0
+Numbered [] = Unit
+Numbered (r ∷ rs) = (0 < r .number) × Numbered rs
+
+-- where the answer of such a table is 0, none of its rules refuses
+pub pass : (rs : List Rule) → Numbered rs → firstOf rs ≡ 0 → Pass rs
+unfolding firstOf
+pass [] t e = tt
+pass (r ∷ rs) t e = go (r .refuses) refl e (pass rs (t .1))
+  where
+    go : (b : Bool) → r .refuses ≡ b → pick b (r .number) (firstOf rs) ≡ 0 → (firstOf rs ≡ 0 → Pass rs) → Pass (r ∷ rs)
+    go true q h k = absurd (omega (arith, t .0))
+    go false q h k = (q, k h)

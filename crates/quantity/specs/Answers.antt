@@ -1,0 +1,75 @@
+-- What each case of an answer stands for in document 01: its number, or its value.
+use mathlib.Core.Option.{Option, some, none}
+use Prim.Native.Nat.{ℕ}
+use Rattle.quantity.specs.declared.LevelAnswer.{LevelAnswer}
+use Rattle.quantity.specs.declared.LevelAnswer.the-variants as levels
+use Rattle.quantity.specs.declared.HighestLevel.{HighestLevel}
+use Rattle.quantity.specs.declared.HighestLevel.the-variants as highests
+use Rattle.quantity.specs.declared.Method.{Method}
+use Rattle.quantity.specs.declared.Method.the-variants.{One, Two}
+use Rattle.quantity.specs.declared.Check.{Check}
+use Rattle.quantity.specs.declared.Check.the-variants.{Passed, Refused}
+use Rattle.quantity.specs.declared.Refusal.{Refusal}
+use Rattle.quantity.specs.declared.Refusal.the-variants.{
+  SampleCount,
+  WindowPastDayEnd,
+  ClassNotInBook,
+  LevelTooHigh,
+  Weather,
+  BackgroundTooNear,
+  StretchCut,
+  StretchOverlaps,
+  FlightsUsedUp,
+  BookInvalid,
+  CalibrationDrift,
+  NoMethod,
+  DayCount,
+  RecordLevelTooHigh,
+  LandUnknown,
+  FileFault,
+  FileTooLong,
+}
+
+-- 'Powers': a level in hundredths of a decibel, or 'below scale'
+pub data Reading : Type 0 where
+  level : ℕ → Reading
+  below-scale : Reading
+
+abbrev pub reading : LevelAnswer → Reading
+reading (levels.At l) = level (l .0)
+reading levels.BelowScale = below-scale
+
+-- 'Day': the highest Lmax, or none without events
+abbrev pub highestReading : HighestLevel → Option ℕ
+highestReading (highests.At l) = some (l .0)
+highestReading highests.Nothing = none
+
+-- 'Day': method one or method two
+abbrev pub methodNumber : Method → ℕ
+methodNumber One = 1
+methodNumber Two = 2
+
+-- 'Refused calls': what is returned
+abbrev pub refusalNumber : Refusal → ℕ
+refusalNumber SampleCount = 1
+refusalNumber WindowPastDayEnd = 2
+refusalNumber ClassNotInBook = 3
+refusalNumber LevelTooHigh = 4
+refusalNumber Weather = 5
+refusalNumber BackgroundTooNear = 6
+refusalNumber StretchCut = 7
+refusalNumber StretchOverlaps = 8
+refusalNumber FlightsUsedUp = 9
+refusalNumber BookInvalid = 10
+refusalNumber CalibrationDrift = 11
+refusalNumber NoMethod = 12
+refusalNumber DayCount = 13
+refusalNumber RecordLevelTooHigh = 14
+refusalNumber LandUnknown = 15
+refusalNumber FileFault = 16
+refusalNumber FileTooLong = 17
+
+-- 'Refused calls': the number by which a call is refused, 0 where it is not
+abbrev pub checkNumber : Check → ℕ
+checkNumber Passed = 0
+checkNumber (Refused r) = refusalNumber r
