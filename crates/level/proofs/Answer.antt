@@ -1,7 +1,7 @@
 -- levelOf is the largest level, and there is no other answer; a divisor may be divided out first, and an offset taken off afterwards.
 -- Assumes nothing.
 use mathlib.Core.Path.{_≡_, refl, ap, subst}
-use mathlib.Core.Bool.{Bool, true, false}
+use mathlib.Core.Bool.{Bool, true, false, cond}
 use Prim.Native.Nat.{ℕ, _+_, _-_, _*_, _/_, _≤_, _<_, zero-le}
 use native.Mathlib.Nat.{
   zero-add,
@@ -26,7 +26,7 @@ use Rattle.power.specs.Power.{e}
 use Rattle.power.proofs.Search.{turn-le}
 use Rattle.power.proofs.Scale.{e-mono, below-e}
 use Rattle.level.specs.Level.{levelOf}
-use Rattle.level.specs.Leading.{keep, lowered}
+use Rattle.level.specs.Leading.{lowered}
 
 -- what an answer says of the sum: as e rises, this holds of one answer alone
 abbrev pub Answers : (d M S : ℕ) → Reading → Type 0
@@ -81,7 +81,7 @@ offset-taken d M S p = answered d M S _ p (go (levelOf 0 M S) (answers 0 M S p))
     over : {c : ℕ} → c ≤ d → S < M * e c → S < M * e d
     over h l = lt-of-lt-of-le l (mul-le-mul-left M (e-mono h))
 
-    choose : (r : ℕ) → (M * e r ≤ S) × (S < M * e (r + 1)) → (v : Bool) → leb d r ≡ v → Answers d M S (keep v (level (r - d)))
+    choose : (r : ℕ) → (M * e r ≤ S) × (S < M * e (r + 1)) → (v : Bool) → leb d r ≡ v → Answers d M S (cond v (level (r - d)) below-scale)
     choose r h true t =
         let l : d ≤ r = leb-true d r t in
         let a : r - d + d ≡ r = omega arith in

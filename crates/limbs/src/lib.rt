@@ -13,6 +13,9 @@ pub enum Order {
     Greater,
 }
 
+// A limb is below it.
+const BASE: u64 = 4294967296;
+
 // A number of two limbs: `low` + 2^32 * `high`.
 pub struct Wide {
     pub low: u32,
@@ -24,8 +27,8 @@ pub fn split(x: u64) -> Wide
     ensures { λ r. ⌜ r .low + r .high * base ≡ x ⌝ }
 {
     Wide {
-        low: (x % 4294967296) as u32,
-        high: (x / 4294967296) as u32,
+        low: (x % BASE) as u32,
+        high: (x / BASE) as u32,
     }
 }
 
@@ -85,7 +88,7 @@ fn limb_quotient(high: u32, low: u32, d: u32) -> Division
     requires { ⌜ high < d ⌝ }
     ensures { λ r. ⌜ (r .quotient * d + r .remainder ≡ high * base + low) × (r .remainder < d) ⌝ }
 {
-    let x = (high as u64) * 4294967296 + (low as u64);
+    let x = (high as u64) * BASE + (low as u64);
     Division {
         quotient: (x / (d as u64)) as u32,
         remainder: (x % (d as u64)) as u32,
@@ -212,5 +215,5 @@ pub fn fits_u64(a: &[u32]) -> bool
 pub fn low_u64(a: &[u32]) -> u64
     ensures { λ r. ⌜ r ≡ value (now (a .entry)) % (base * base) ⌝ }
 {
-    (limb_at(a, 0) as u64) + (limb_at(a, 1) as u64) * 4294967296
+    (limb_at(a, 0) as u64) + (limb_at(a, 1) as u64) * BASE
 }

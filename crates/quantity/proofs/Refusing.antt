@@ -1,20 +1,41 @@
 -- A table of rules, one row after the other. Assumes nothing.
 use mathlib.Core.Path.{_≡_, refl, ap}
-use mathlib.Core.Bool.{Bool, true, false}
+use mathlib.Core.Bool.{Bool, true, false, cond, _||_}
 use mathlib.Core.List.{List, [], _∷_}
 use Prim.Native.Nat.{ℕ, _<_}
 use native.Mathlib.Omega.{arith}
-use Rattle.quantity.specs.Choice.{pick}
+use lib.Dec.{lit<}
+use Rattle.quantity.specs.Answers.{refusalNumber}
 use Rattle.quantity.specs.Rules.{Rule, firstOf}
+use Rattle.quantity.specs.declared.Refusal.{Refusal}
+use Rattle.quantity.specs.declared.Refusal.the-variants.{
+  SampleCount,
+  WindowPastDayEnd,
+  ClassNotInBook,
+  LevelTooHigh,
+  Weather,
+  BackgroundTooNear,
+  StretchCut,
+  StretchOverlaps,
+  FlightsUsedUp,
+  BookInvalid,
+  CalibrationDrift,
+  NoMethod,
+  DayCount,
+  RecordLevelTooHigh,
+  LandUnknown,
+  FileFault,
+  FileTooLong,
+}
 
 -- a rule that does not refuse is passed over, one that refuses is the answer, and no rule refuses at the end of the table
 pub skip : (r : Rule) (rs : List Rule) → r .refuses ≡ false → firstOf (r ∷ rs) ≡ firstOf rs
 unfolding firstOf
-skip r rs h = ap (λ (b : Bool). pick b (r .number) (firstOf rs)) h
+skip r rs h = ap (λ (b : Bool). cond b (r .number) (firstOf rs)) h
 
 pub stop : (r : Rule) (rs : List Rule) → r .refuses ≡ true → firstOf (r ∷ rs) ≡ r .number
 unfolding firstOf
-stop r rs h = ap (λ (b : Bool). pick b (r .number) (firstOf rs)) h
+stop r rs h = ap (λ (b : Bool). cond b (r .number) (firstOf rs)) h
 
 pub end : firstOf [] ≡ 0
 unfolding firstOf
@@ -36,6 +57,31 @@ unfolding firstOf
 pass [] t e = tt
 pass (r ∷ rs) t e = go (r .refuses) refl e (pass rs (t .1))
   where
-    go : (b : Bool) → r .refuses ≡ b → pick b (r .number) (firstOf rs) ≡ 0 → (firstOf rs ≡ 0 → Pass rs) → Pass (r ∷ rs)
+    go : (b : Bool) → r .refuses ≡ b → cond b (r .number) (firstOf rs) ≡ 0 → (firstOf rs ≡ 0 → Pass rs) → Pass (r ∷ rs)
     go true q h k = absurd (omega (arith, t .0))
     go false q h k = (q, k h)
+
+-- where a test by one or the other does not hold, neither does
+pub neither : (a b : Bool) → (a || b) ≡ false → (a ≡ false) × (b ≡ false)
+neither true b h = absurd (let z : _≡_ {A = ℕ} 0 1 = cc in omega arith)
+neither false b h = (refl, h)
+
+-- a refusal has a number
+pub refusal-positive : (r : Refusal) → 0 < refusalNumber r
+refusal-positive SampleCount = lit< tt
+refusal-positive WindowPastDayEnd = lit< tt
+refusal-positive ClassNotInBook = lit< tt
+refusal-positive LevelTooHigh = lit< tt
+refusal-positive Weather = lit< tt
+refusal-positive BackgroundTooNear = lit< tt
+refusal-positive StretchCut = lit< tt
+refusal-positive StretchOverlaps = lit< tt
+refusal-positive FlightsUsedUp = lit< tt
+refusal-positive BookInvalid = lit< tt
+refusal-positive CalibrationDrift = lit< tt
+refusal-positive NoMethod = lit< tt
+refusal-positive DayCount = lit< tt
+refusal-positive RecordLevelTooHigh = lit< tt
+refusal-positive LandUnknown = lit< tt
+refusal-positive FileFault = lit< tt
+refusal-positive FileTooLong = lit< tt

@@ -1,0 +1,63 @@
+-- The laws that the proofs of the verdict share. Assumes nothing.
+use Prim.Native.Nat.{ℕ, zero, suc, _-_, _≤_}
+use mathlib.Core.Path.{_≡_, refl}
+use mathlib.Core.Bool.{Bool, true, false, cond, not, _&&_}
+use mathlib.Core.List.{[]}
+use mathlib.Core.Option.{Option}
+use native.Mathlib.Omega.{arith}
+use lib.Dec.{leb, ltb}
+use lib.IntN.{pos, negsuc, _-ℤ_}
+use lib.Signed.{mag}
+use mir.Syntax.{w32}
+use mir.Val.{SFits}
+use borrow.Author.Tests.{leb-true}
+use Rattle.quantity.specs.Answers.{Reading}
+use Rattle.quantity.specs.Rules.{Outcome}
+use Rattle.land.specs.Classes.{I, IV, limitOf}
+use Rattle.land.specs.Answers.{classNumber}
+use Rattle.land.specs.Verdict.{exceeds, unknownClass, landClassOf, verdictOf, verdictOn}
+use Rattle.land.specs.declared.LandClass.{LandClass}
+use Rattle.land.specs.declared.LandClass.the-variants.{One, Two, Three, Four}
+use Rattle.quantity.proofs.Refusing.{skip, stop, end}
+
+-- the number of a class is that of a known class
+pub known-class : (class : LandClass) → unknownClass (classNumber class) .refuses ≡ false
+known-class One = refl
+known-class Two = refl
+known-class Three = refl
+known-class Four = refl
+
+-- no limit exceeds the highest level of a record
+pub limit-low : (class : LandClass) → exceeds (limitOf (classNumber class)) 20000 ≡ false
+limit-low One = refl
+limit-low Two = refl
+limit-low Three = refl
+limit-low Four = refl
+
+-- a number that is not 1 to 4 is that of no class
+pub no-class : (n : ℕ) → (n ≡ 1 → ⊥) → (n ≡ 2 → ⊥) → (n ≡ 3 → ⊥) → (n ≡ 4 → ⊥) → unknownClass n .refuses ≡ true
+no-class n h₁ h₂ h₃ h₄ = go (leb I n) refl (leb n IV) refl where
+  go : (a : Bool) → leb I n ≡ a → (b : Bool) → leb n IV ≡ b → not (a && b) ≡ true
+  go true p true q = absurd (omega (arith, leb-true I n p, leb-true n IV q))
+  go true p false q = refl
+  go false p b q = refl
+
+-- a difference of two numbers is at most the larger of them in size
+mag-difference : (a b n : ℕ) → a ≤ n → b ≤ n → mag (pos a -ℤ pos b) ≤ n
+mag-difference a zero n h k = omega arith
+mag-difference a (suc b) n h k = go (ltb a (suc b)) where
+  go : (t : Bool) → mag (cond t (negsuc (suc b - suc a)) (pos (a - suc b))) ≤ n
+  go true = omega arith
+  go false = omega arith
+
+-- so the difference of two levels of a record fits 32 bits
+pub difference-fits : {a b : ℕ} → a ≤ 20000 → b ≤ 20000 → SFits w32 (pos a -ℤ pos b)
+difference-fits {a} {b} h k = record { sfits = omega (arith, mag-difference a b 20000 h k) }
+
+-- a verdict on a class that is looked up is the verdict on the class
+pub looked-up : (class : ℕ) {land : Outcome ℕ} → land ≡ landClassOf class → (yearly : Reading) (sensitive : Bool) (highest : Option ℕ)
+    → verdictOn land yearly sensitive highest ≡ verdictOf class yearly sensitive highest
+looked-up class p yearly sensitive highest = rw p (go (unknownClass class .refuses) refl) where
+  go : (b : Bool) → unknownClass class .refuses ≡ b → verdictOn (landClassOf class) yearly sensitive highest ≡ verdictOf class yearly sensitive highest
+  go true e = rw (stop (unknownClass class) [] e, stop (unknownClass class) _ e)
+  go false e = rw (skip (unknownClass class) [] e, end)

@@ -1,0 +1,24 @@
+-- `land::over_maximum` meets its contract: the three tests. Assumes nothing.
+use borrow.Author.Needs.{needs}
+use borrow.Author.Tests.{le-leb, lt-leb}
+use Rattle.land.proofs.over_maximum.Statement.{statement}
+use Rattle.land.proofs.over_maximum.Tie as tie
+
+class-number-requires : tie.Need-class-number-requires
+class-number-requires c κs = search needs
+
+highest-exceeds-requires : tie.Need-highest-exceeds-requires
+highest-exceeds-requires c κs = search needs
+
+returns : tie.Need-returns
+returns c = rw (← c .before .before .before .class-number .ensures, le-leb _ _ (c .before .before .if1 .taken), c .before .if2 .taken) (c .highest-exceeds .ensures)
+
+returns-2 : tie.Need-returns-2
+returns-2 c = rw (← c .before .before .class-number .ensures, le-leb _ _ (c .before .if1 .taken), c .if2 .left)
+
+returns-3 : tie.Need-returns-3
+returns-3 c = rw (← c .before .class-number .ensures, lt-leb _ _ (c .if1 .left))
+
+pub over-maximum-spec : {M : Type 1} → statement M
+over-maximum-spec =
+    tie.close (tie.spec class-number-requires highest-exceeds-requires returns returns-2 returns-3)

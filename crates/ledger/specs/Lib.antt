@@ -1,0 +1,3 @@
+pub mod Book
+pub mod Day
+pub mod Offer
