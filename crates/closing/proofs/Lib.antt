@@ -1,5 +1,4 @@
 pub mod Answers
 pub mod Counted
 pub mod Energy
-pub mod Refusals
 pub mod Shares

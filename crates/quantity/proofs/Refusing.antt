@@ -8,25 +8,7 @@ use lib.Dec.{lit<}
 use Rattle.quantity.specs.Answers.{refusalNumber}
 use Rattle.quantity.specs.Rules.{Rule, firstOf}
 use Rattle.quantity.specs.declared.Refusal.{Refusal}
-use Rattle.quantity.specs.declared.Refusal.the-variants.{
-  SampleCount,
-  WindowPastDayEnd,
-  ClassNotInBook,
-  LevelTooHigh,
-  Weather,
-  BackgroundTooNear,
-  StretchCut,
-  StretchOverlaps,
-  FlightsUsedUp,
-  BookInvalid,
-  CalibrationDrift,
-  NoMethod,
-  DayCount,
-  RecordLevelTooHigh,
-  LandUnknown,
-  FileFault,
-  FileTooLong,
-}
+use Rattle.quantity.specs.declared.Refusal.the-variants as refusals
 
 -- a rule that does not refuse is passed over, one that refuses is the answer, and no rule refuses at the end of the table
 pub skip : (r : Rule) (rs : List Rule) → r .refuses ≡ false → firstOf (r ∷ rs) ≡ firstOf rs
@@ -68,20 +50,20 @@ neither false b h = (refl, h)
 
 -- a refusal has a number
 pub refusal-positive : (r : Refusal) → 0 < refusalNumber r
-refusal-positive SampleCount = lit< tt
-refusal-positive WindowPastDayEnd = lit< tt
-refusal-positive ClassNotInBook = lit< tt
-refusal-positive LevelTooHigh = lit< tt
-refusal-positive Weather = lit< tt
-refusal-positive BackgroundTooNear = lit< tt
-refusal-positive StretchCut = lit< tt
-refusal-positive StretchOverlaps = lit< tt
-refusal-positive FlightsUsedUp = lit< tt
-refusal-positive BookInvalid = lit< tt
-refusal-positive CalibrationDrift = lit< tt
-refusal-positive NoMethod = lit< tt
-refusal-positive DayCount = lit< tt
-refusal-positive RecordLevelTooHigh = lit< tt
-refusal-positive LandUnknown = lit< tt
-refusal-positive FileFault = lit< tt
-refusal-positive FileTooLong = lit< tt
+refusal-positive refusals.SampleCount = lit< tt
+refusal-positive refusals.WindowPastDayEnd = lit< tt
+refusal-positive refusals.ClassNotInBook = lit< tt
+refusal-positive refusals.LevelTooHigh = lit< tt
+refusal-positive refusals.Weather = lit< tt
+refusal-positive refusals.BackgroundTooNear = lit< tt
+refusal-positive refusals.StretchCut = lit< tt
+refusal-positive refusals.StretchOverlaps = lit< tt
+refusal-positive refusals.FlightsUsedUp = lit< tt
+refusal-positive refusals.BookInvalid = lit< tt
+refusal-positive refusals.CalibrationDrift = lit< tt
+refusal-positive refusals.NoMethod = lit< tt
+refusal-positive refusals.DayCount = lit< tt
+refusal-positive refusals.RecordLevelTooHigh = lit< tt
+refusal-positive refusals.LandUnknown = lit< tt
+refusal-positive refusals.FileFault = lit< tt
+refusal-positive refusals.FileTooLong = lit< tt

@@ -10,25 +10,7 @@ use Rattle.quantity.specs.declared.Method.the-variants.{One, Two}
 use Rattle.quantity.specs.declared.Check.{Check}
 use Rattle.quantity.specs.declared.Check.the-variants.{Passed, Refused}
 use Rattle.quantity.specs.declared.Refusal.{Refusal}
-use Rattle.quantity.specs.declared.Refusal.the-variants.{
-  SampleCount,
-  WindowPastDayEnd,
-  ClassNotInBook,
-  LevelTooHigh,
-  Weather,
-  BackgroundTooNear,
-  StretchCut,
-  StretchOverlaps,
-  FlightsUsedUp,
-  BookInvalid,
-  CalibrationDrift,
-  NoMethod,
-  DayCount,
-  RecordLevelTooHigh,
-  LandUnknown,
-  FileFault,
-  FileTooLong,
-}
+use Rattle.quantity.specs.declared.Refusal.the-variants as refusals
 
 -- 'Powers': a level in hundredths of a decibel, or 'below scale'
 pub data Reading : Type 0 where
@@ -51,23 +33,23 @@ methodNumber Two = 2
 
 -- 'Refused calls': what is returned
 abbrev pub refusalNumber : Refusal → ℕ
-refusalNumber SampleCount = 1
-refusalNumber WindowPastDayEnd = 2
-refusalNumber ClassNotInBook = 3
-refusalNumber LevelTooHigh = 4
-refusalNumber Weather = 5
-refusalNumber BackgroundTooNear = 6
-refusalNumber StretchCut = 7
-refusalNumber StretchOverlaps = 8
-refusalNumber FlightsUsedUp = 9
-refusalNumber BookInvalid = 10
-refusalNumber CalibrationDrift = 11
-refusalNumber NoMethod = 12
-refusalNumber DayCount = 13
-refusalNumber RecordLevelTooHigh = 14
-refusalNumber LandUnknown = 15
-refusalNumber FileFault = 16
-refusalNumber FileTooLong = 17
+refusalNumber refusals.SampleCount = 1
+refusalNumber refusals.WindowPastDayEnd = 2
+refusalNumber refusals.ClassNotInBook = 3
+refusalNumber refusals.LevelTooHigh = 4
+refusalNumber refusals.Weather = 5
+refusalNumber refusals.BackgroundTooNear = 6
+refusalNumber refusals.StretchCut = 7
+refusalNumber refusals.StretchOverlaps = 8
+refusalNumber refusals.FlightsUsedUp = 9
+refusalNumber refusals.BookInvalid = 10
+refusalNumber refusals.CalibrationDrift = 11
+refusalNumber refusals.NoMethod = 12
+refusalNumber refusals.DayCount = 13
+refusalNumber refusals.RecordLevelTooHigh = 14
+refusalNumber refusals.LandUnknown = 15
+refusalNumber refusals.FileFault = 16
+refusalNumber refusals.FileTooLong = 17
 
 -- 'Refused calls': the number by which a call is refused, 0 where it is not
 abbrev pub checkNumber : Check → ℕ

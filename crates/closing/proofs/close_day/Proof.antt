@@ -3,7 +3,7 @@ use mathlib.Core.Path.{_≡_, sym, ap, _∙_}
 use Rattle.quantity.specs.Answers.{refusalNumber, checkNumber}
 use Rattle.closing.specs.Close.{countsOf}
 use Rattle.closing.proofs.Answers.{refused-with, method-found}
-use Rattle.closing.proofs.Refusals.{refusal-positive}
+use Rattle.quantity.proofs.Refusing.{refusal-positive}
 use borrow.Author.Needs.{needs}
 use Rattle.closing.proofs.close_day.Statement.{statement}
 use Rattle.closing.proofs.close_day.Tie as tie
