@@ -1,16 +1,15 @@
 -- The totals of a day are its counts, and Ldn by the method that the counts choose. Assumes nothing.
-use mathlib.Core.Path.{_≡_, refl, ap, sym, _∙_}
+use mathlib.Core.Path.{_≡_, refl, ap, sym}
 use mathlib.Core.Bool.{Bool, true, false, _&&_, _||_, cond}
 use Prim.Native.Nat.{ℕ, _+_, _*_, _≤_}
 use lib.Dec.{leb}
 use borrow.Author.Tests.{leb-true}
-use Rattle.quantity.specs.Answers.{Reading}
 use Rattle.level.specs.Level.{levelOf}
 use Rattle.event.specs.Clock.{samplesASecond, dayTicks}
 use Rattle.ledger.specs.Book.{mostClasses}
 use Rattle.ledger.specs.declared.Day.{Day}
 use Rattle.closing.specs.declared.Totals.{Totals}
-use Rattle.closing.specs.Total.{Summed, Totalled}
+use Rattle.closing.specs.Total.{Totalled}
 use Rattle.closing.specs.Close.{Counts, nightWeight, methodTwoOffset, flightsOf, eventsOf, fewMissing, methodOneHolds, methodTwoHolds, sharesHold, methodOf, ldnOf, countsOf}
 
 -- Nd + 10 Nn
@@ -29,6 +28,7 @@ module _ (c : Counts) {one : Bool} (h : methodOneHolds c ≡ one) where
       ap (λ (b : Bool). levelOf (cond b 0 methodTwoOffset) (cond b dayTicks (samplesASecond * eventsOf c)) (cond b 1 (weightOf c) * Sd + cond b nightWeight (weightOf c) * Sn))
       (sym h)
 
+-- of two tests that both hold, the first holds
 both-first : (a b : Bool) → (a && b) ≡ true → a ≡ true
 both-first true b h = refl
 both-first false b h = h
@@ -37,6 +37,7 @@ both-first false b h = h
 pub events-found : (c : Counts) → methodOneHolds c ≡ false → (methodOneHolds c || methodTwoHolds c) ≡ true → 1 ≤ eventsOf c
 events-found c h e = leb-true _ _ (both-first (leb 1 (eventsOf c)) (sharesHold c mostClasses) (rw h at e))
 
+-- a day's totals are its counts
 module _ {day : Day} {t : Totals} (p : Totalled day t) where
   pub flights-counted : t .daytime .flights + t .night .flights ≡ flightsOf (countsOf day)
   flights-counted = rw (p .daytime .flights .sum, p .night .flights .sum)

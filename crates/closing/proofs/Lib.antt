@@ -1,3 +1,4 @@
+-- The laws that the proofs of `closing` share.
 pub mod Answers
 pub mod Counted
 pub mod Energy

@@ -1,12 +1,12 @@
 -- The condition on the shares, one class after the other from the last. Assumes nothing.
-use mathlib.Core.Path.{_≡_, refl, ap, sym, _∙_}
-use mathlib.Core.Bool.{Bool, true, false, _&&_}
+use mathlib.Core.Path.{_≡_, refl, sym, _∙_}
+use mathlib.Core.Bool.{true, false, _&&_}
 use Prim.Native.Nat.{ℕ, zero, suc, _*_, _-_, _≤_, _<_}
 use native.Mathlib.Nat.{mul-le-mul}
 use native.Mathlib.Omega.{arith}
 use Rattle.ledger.specs.Book.{mostClasses}
 use Rattle.closing.specs.Total.{mostOfPeriod}
-use Rattle.closing.specs.Close.{Counts, Share, flightsOf, eventsOf, shareHolds, sharesHold}
+use Rattle.closing.specs.Close.{Counts, flightsOf, eventsOf, shareHolds, sharesHold}
 
 -- the condition hangs on the first k classes alone
 pub record SharesLeft (c : Counts) (k : ℕ) : Type 0 where

@@ -45,6 +45,7 @@ pub struct Closing {
     pub highest: HighestLevel,
 }
 
+// The answer to closing: the report, or why it is refused.
 pub enum CloseAnswer {
     Closed(Closing),
     Refused(Refusal),
@@ -141,7 +142,7 @@ fn both(daytime: Count, night: Count) -> Count
     }
 }
 
-// A class's number: what 16 bits hold.
+// A class's number, with the bound that its 16 bits give.
 fn widened(number: u16) -> u32
     ensures { λ r. ⌜ (r ≡ number) × (r ≤ mostOfPeriod) ⌝ }
 {
@@ -240,7 +241,7 @@ fn check_close(day: Day, totals: Totals, before: Level, after: Level) -> Check
     Check::Passed
 }
 
-// A period's energy times a weight, with room for one product more.
+// A period's energy times a weight, with room for the sum of two.
 fn weighted(sum: [u32; 4], weight: u32) -> [u32; 6]
     ensures { λ r. ⌜ (value r ≡ weight * value sum) × (value r < base ^ 5) ⌝ }
 {

@@ -9,7 +9,8 @@ use borrow.Author.Tests.{not-false, ltb-false, leb-false, eqb-true}
 use lib.Dec.{leb, ltb, eqb}
 use lib.ListN.{length}
 use Rattle.quantity.specs.Rules.{firstOf}
-use Rattle.quantity.proofs.Refusing.{pass, neither}
+use Rattle.quantity.proofs.Refusing.{pass}
+use Rattle.quantity.proofs.Tests.{neither}
 use Rattle.event.specs.Window.{countWrong}
 use Rattle.event.specs.Clock.{dayTicks, shortestWindow, longestWindow}
 use Rattle.event.specs.Event.{Measured, measuredOf}

@@ -1,6 +1,6 @@
 -- A table of rules, one row after the other. Assumes nothing.
 use mathlib.Core.Path.{_≡_, refl, ap}
-use mathlib.Core.Bool.{Bool, true, false, cond, _||_}
+use mathlib.Core.Bool.{Bool, true, false, cond}
 use mathlib.Core.List.{List, [], _∷_}
 use Prim.Native.Nat.{ℕ, _<_}
 use native.Mathlib.Omega.{arith}
@@ -42,11 +42,6 @@ pass (r ∷ rs) t e = go (r .refuses) refl e (pass rs (t .1))
     go : (b : Bool) → r .refuses ≡ b → cond b (r .number) (firstOf rs) ≡ 0 → (firstOf rs ≡ 0 → Pass rs) → Pass (r ∷ rs)
     go true q h k = absurd (omega (arith, t .0))
     go false q h k = (q, k h)
-
--- where a test by one or the other does not hold, neither does
-pub neither : (a b : Bool) → (a || b) ≡ false → (a ≡ false) × (b ≡ false)
-neither true b h = absurd (let z : _≡_ {A = ℕ} 0 1 = cc in omega arith)
-neither false b h = (refl, h)
 
 -- a refusal has a number
 pub refusal-positive : (r : Refusal) → 0 < refusalNumber r

@@ -1,5 +1,5 @@
 -- `closing::close_day` meets its contract: the refusal, or Ldn by the method that the counts choose. Assumes nothing.
-use mathlib.Core.Path.{_≡_, sym, ap, _∙_}
+use mathlib.Core.Path.{sym, ap, _∙_}
 use Rattle.quantity.specs.Answers.{refusalNumber, checkNumber}
 use Rattle.closing.specs.Close.{countsOf}
 use Rattle.closing.proofs.Answers.{refused-with, method-found}

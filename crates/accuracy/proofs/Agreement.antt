@@ -1,0 +1,124 @@
+-- The relation between tally and day: the day is the one that the tally gives, and the tally keeps its bounds. A fresh day has it.
+-- Assumes nothing.
+use mathlib.Core.Path.{_≡_, refl, sym}
+use mathlib.Core.Bool.{Bool, true, false}
+use mathlib.Core.List.{List, [], _∷_}
+use Prim.Native.Nat.{ℕ, _*_, _≤_, zero-le}
+use native.Mathlib.Nat.{le-trans}
+use native.Mathlib.Omega.{arith}
+use borrow.Author.Needs.{needs}
+use borrow.Author.Tests.{eqb-true, eqb-false, ltb-false, not-false}
+use lib.Dec.{eqb, ltb}
+use lib.ListN.{length, getD, length-replicate}
+use Rattle.quantity.specs.Rules.{firstOf}
+use Rattle.quantity.specs.declared.HighestLevel.{HighestLevel}
+use Rattle.quantity.specs.declared.HighestLevel.the-variants as highests
+use Rattle.quantity.proofs.Refusing.{pass}
+use Rattle.power.specs.Power.{e}
+use Rattle.limbs.specs.Value.{value, limbsOf}
+use Rattle.limbs.proofs.Digits.{value-limbsOf-whole}
+use Rattle.event.specs.Clock.{dayTicks}
+use Rattle.event.specs.Window.{highest}
+use Rattle.ledger.specs.Book.{mostClasses, sumOf, padded, bookRules}
+use Rattle.ledger.specs.Day.{freshDay, periodOf}
+use Rattle.ledger.specs.Offer.{raised, highestSample}
+use Rattle.ledger.specs.declared.Period.{Period}
+use Rattle.ledger.specs.declared.Day.{Day}
+use Rattle.accuracy.specs.Tally.{Held, Tally, bookOf, started}
+use Rattle.accuracy.specs.Laws.{Apart, periodEnergy}
+use Rattle.quantity.proofs.Tests.{neither}
+use Rattle.accuracy.proofs.Lists.{padded-at, padded-sum, padded-zeros, zeros-at}
+use Rattle.accuracy.proofs.Sums.{heldEnergy, period-part, day-fits}
+
+-- the day that a tally gives: for each period the flights and the counts in sixteen places, and the energy in four limbs
+abbrev pub periodOfParts : List ℕ → List ℕ → ℕ → Period
+periodOfParts book count S = record { booked = padded mostClasses book; accepted = padded mostClasses count; sum = limbsOf 4 S }
+
+abbrev pub periodFrom : Tally → Bool → Period
+periodFrom t p = periodOfParts (t .book p) (t .count p) (periodEnergy p (t .stretches))
+
+abbrev pub highestFrom : List Held → HighestLevel
+highestFrom [] = highests.Nothing
+highestFrom (h ∷ hs) = raised (highestFrom hs) (record { 0 = highest (h .levels) })
+
+abbrev pub dayFrom : Tally → Day
+dayFrom t =
+    record {
+      classes = length (t .book true);
+      daytime = periodFrom t true;
+      night = periodFrom t false;
+      end = record { 0 = t .end };
+      highest = highestFrom (t .stretches);
+    }
+
+-- the bounds of a tally: 1 to 16 classes, no count passes the book, the stretches lie apart and within the day, and their energy is at most
+-- that of a sample of the highest level at each instant up to the end
+pub record Bounded (t : Tally) : Type 0 where
+  pub some : 1 ≤ length (t .book true)
+  pub most : length (t .book true) ≤ mostClasses
+  pub booked : (p : Bool) → length (t .book p) ≡ length (t .book true)
+  pub counted : (p : Bool) → length (t .count p) ≡ length (t .book true)
+  pub counts : (p : Bool) (class : ℕ) → getD (t .count p) class 0 ≤ getD (t .book p) class 0
+  pub day : t .end ≤ dayTicks
+  pub apart : Apart (t .end) (t .stretches)
+  pub energy : heldEnergy (t .stretches) ≤ e highestSample * t .end
+
+pub record Agrees (t : Tally) (day : Day) : Type 0 where
+  pub same : day ≡ dayFrom t
+  pub bounded : Bounded t
+
+pub period-from : (t : Tally) (p : Bool) → periodOf (dayFrom t) p ≡ periodFrom t p
+period-from t true = refl
+period-from t false = refl
+
+-- the day's sixteen places hold the tally's numbers, and its limbs the tally's energy
+module _ {t : Tally} (b : Bounded t) (p : Bool) where
+  book-fits : length (t .book p) ≤ mostClasses
+  book-fits = rw (b .booked p) (b .most)
+
+  count-fits : length (t .count p) ≤ mostClasses
+  count-fits = rw (b .counted p) (b .most)
+
+  pub book-at : (class : ℕ) → getD (padded mostClasses (t .book p)) class 0 ≡ getD (t .book p) class 0
+  book-at class = padded-at mostClasses (t .book p) class book-fits
+
+  pub count-at : (class : ℕ) → getD (padded mostClasses (t .count p)) class 0 ≡ getD (t .count p) class 0
+  count-at class = padded-at mostClasses (t .count p) class count-fits
+
+  pub book-sum : sumOf (padded mostClasses (t .book p)) ≡ sumOf (t .book p)
+  book-sum = padded-sum mostClasses (t .book p) book-fits
+
+  pub count-sum : sumOf (padded mostClasses (t .count p)) ≡ sumOf (t .count p)
+  count-sum = padded-sum mostClasses (t .count p) count-fits
+
+  pub sum-whole : value (limbsOf 4 (periodEnergy p (t .stretches))) ≡ periodEnergy p (t .stretches)
+  sum-whole =
+      let S = periodEnergy p (t .stretches) in
+      value-limbsOf-whole 4 S (day-fits S (t .end) (le-trans (period-part p (t .stretches)) (b .energy)) (b .day))
+
+-- the fresh day
+book-even : (daytime night : List ℕ) → length daytime ≡ length night → (p : Bool) → length (bookOf daytime night p) ≡ length daytime
+book-even daytime night h true = refl
+book-even daytime night h false = sym h
+
+pub fresh : (daytime night : List ℕ) → firstOf (bookRules daytime night) ≡ 0 → Agrees (started daytime night) (freshDay daytime night)
+unfolding limbsOf periodEnergy
+fresh daytime night h =
+    let n = length daytime in
+    let rules = pass (bookRules daytime night) (search needs) h in
+    let classes = neither (eqb n 0) (ltb mostClasses n) (rules .0) in
+    let even = eqb-true n (length night) (not-false (eqb n (length night)) (rules .1 .0)) in
+    record {
+      same = rw (padded-zeros mostClasses n);
+      bounded =
+          record {
+            some = omega (arith, eqb-false n 0 (classes .0));
+            most = ltb-false mostClasses n (classes .1);
+            booked = book-even daytime night even;
+            counted = λ p. length-replicate n 0;
+            counts = λ p class. rw (zeros-at n class) zero-le;
+            day = zero-le;
+            apart = tt;
+            energy = zero-le;
+          };
+    }

@@ -1,0 +1,9 @@
+pub mod Tests
+pub mod Lists
+pub mod Sums
+pub mod Windows
+pub mod Agreement
+pub mod Held
+pub mod Offers
+pub mod Closings
+pub mod Claim

@@ -1,0 +1,80 @@
+-- Laws on plain lists: a list in a number of places, a count that is raised, and the highest of a part of a list. Assumes nothing.
+use mathlib.Core.Path.{_≡_, refl, ap}
+use mathlib.Core.List.{List, [], _∷_}
+use Prim.Native.Nat.{ℕ, zero, suc, _+_, _*_, _≤_, _<_, zero-le}
+use native.Mathlib.Nat.{le-refl, le-trans}
+use native.Mathlib.Omega.{arith}
+use borrow.Author.Tests.{eqb-true, eqb-false}
+use lib.Dec.{eqb}
+use lib.ListN.{length, getD, set, take, drop, replicate}
+use lib.Seq.{slice, getD-set-same, getD-set-other}
+use Rattle.power.specs.Power.{e}
+use Rattle.power.proofs.Scale.{e-mono}
+use Rattle.event.specs.Window.{highest}
+use Rattle.event.specs.Event.{energies}
+use Rattle.ledger.specs.Book.{sumOf, padded}
+use Rattle.quantity.proofs.Tests.{test}
+
+-- a list in n places has the same numbers, the same sum, and is set at the same place
+pub padded-at : (n : ℕ) (xs : List ℕ) (k : ℕ) → length xs ≤ n → getD (padded n xs) k 0 ≡ getD xs k 0
+padded-at zero [] k h = refl
+padded-at zero (x ∷ xs) k h = absurd (omega arith)
+padded-at (suc n) [] zero h = refl
+padded-at (suc n) [] (suc k) h = padded-at n [] k zero-le
+padded-at (suc n) (x ∷ xs) zero h = refl
+padded-at (suc n) (x ∷ xs) (suc k) h = padded-at n xs k (omega arith)
+
+pub padded-sum : (n : ℕ) (xs : List ℕ) → length xs ≤ n → sumOf (padded n xs) ≡ sumOf xs
+unfolding sumOf
+padded-sum zero [] h = refl
+padded-sum zero (x ∷ xs) h = absurd (omega arith)
+padded-sum (suc n) [] h = omega (arith, padded-sum n [] zero-le)
+padded-sum (suc n) (x ∷ xs) h = ap (λ (m : ℕ). x + m) (padded-sum n xs (omega arith))
+
+pub padded-set : (n : ℕ) (xs : List ℕ) (k x : ℕ) → k < length xs → set (padded n xs) k x ≡ padded n (set xs k x)
+padded-set zero xs k x h = refl
+padded-set (suc n) [] k x h = absurd (omega arith)
+padded-set (suc n) (y ∷ ys) zero x h = refl
+padded-set (suc n) (y ∷ ys) (suc k) x h = ap (λ (l : List ℕ). y ∷ l) (padded-set n ys k x (omega arith))
+
+-- zeros
+pub padded-zeros : (n k : ℕ) → padded n (replicate k 0) ≡ replicate n 0
+padded-zeros zero k = refl
+padded-zeros (suc n) zero = ap (λ (l : List ℕ). 0 ∷ l) (padded-zeros n zero)
+padded-zeros (suc n) (suc k) = ap (λ (l : List ℕ). 0 ∷ l) (padded-zeros n k)
+
+pub zeros-at : (n k : ℕ) → _≡_ {A = ℕ} (getD (replicate n 0) k 0) 0
+zeros-at zero k = refl
+zeros-at (suc n) zero = refl
+zeros-at (suc n) (suc k) = zeros-at n k
+
+-- counts within a book, one of them raised by one where the book has more
+pub raised-within : (counts book : List ℕ) (k : ℕ) → k < length counts → getD counts k 0 < getD book k 0
+    → ((j : ℕ) → getD counts j 0 ≤ getD book j 0) → (j : ℕ) → getD (set counts k (getD counts k 0 + 1)) j 0 ≤ getD book j 0
+raised-within counts book k l g h j =
+    test (eqb j k)
+    (λ t. rw (eqb-true j k t, getD-set-same counts k (getD counts k 0 + 1) 0 l) (omega arith))
+    (λ f. rw (getD-set-other counts k j (getD counts k 0 + 1) 0 (eqb-false j k f)) (h j))
+
+-- a part of a list is not higher than the list
+pub highest-take : (n : ℕ) (s : List ℕ) → highest (take n s) ≤ highest s
+highest-take zero s = zero-le
+highest-take (suc n) [] = zero-le
+highest-take (suc n) (c ∷ cs) = omega (arith, highest-take n cs)
+
+pub highest-drop : (n : ℕ) (s : List ℕ) → highest (drop n s) ≤ highest s
+highest-drop zero s = le-refl _
+highest-drop (suc n) [] = zero-le
+highest-drop (suc n) (c ∷ cs) = omega (arith, highest-drop n cs)
+
+pub highest-slice : (first end : ℕ) (s : List ℕ) → highest (slice first end s) ≤ highest s
+highest-slice first end s = le-trans (highest-drop first (take end s)) (highest-take end s)
+
+-- samples up to a level have at most its power each
+pub energies-most : (c : ℕ) (s : List ℕ) → highest s ≤ c → energies s ≤ e c * length s
+unfolding energies
+energies-most c [] h = zero-le
+energies-most c (x ∷ xs) h =
+    let l : highest xs ≤ c = omega arith in
+    let m : x ≤ c = omega arith in
+    omega (arith, e-mono m, energies-most c xs l)

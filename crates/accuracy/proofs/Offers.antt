@@ -1,0 +1,169 @@
+-- An offer: day and tally refuse it by the same number, or both take it in and agree again; and what is demanded of the answer.
+-- Assumes nothing.
+use mathlib.Core.Path.{_≡_, refl, sym, ap, _∙_}
+use mathlib.Core.Bool.{Bool, true, false, cond}
+use mathlib.Core.List.{List, [], _∷_}
+use Prim.Native.Nat.{ℕ, zero, suc, _+_, _≤_, _<_}
+use native.Mathlib.Nat.{add-comm, zero-add, le-refl, le-trans, mul-le-mul-left}
+use native.Mathlib.Omega.{arith}
+use borrow.Author.Tests.{leb-false, eqb-false}
+use lib.Dec.{leb, eqb}
+use lib.ListN.{length, getD, set, length-set}
+use Rattle.quantity.specs.Rules.{Rule, firstOf}
+use Rattle.quantity.specs.declared.HighestLevel.{HighestLevel}
+use Rattle.power.specs.Power.{e}
+use Rattle.limbs.proofs.Digits.{limbsOf-add}
+use Rattle.event.specs.Window.{highest}
+use Rattle.event.specs.Stretch.{stretchFirst, stretchEnd, stretchOf}
+use Rattle.event.specs.Event.{energies, measuredOf}
+use Rattle.event.proofs.Exposure.{exposure-accurate}
+use Rattle.event.proofs.Whole.{within, peak-inside}
+use Rattle.ledger.specs.Book.{mostClasses}
+use Rattle.ledger.specs.Day.{periodOf, withPeriod}
+use Rattle.ledger.specs.Offer.{Offering, OfferReading, offered, ifAdmitted, admitted, dayChecks, usedUp, withEvent, entered, raised, highestSample}
+use Rattle.ledger.specs.declared.Period.{Period}
+use Rattle.ledger.specs.declared.Day.{Day}
+use Rattle.accuracy.specs.Tally.{offering, Held, Tally, tallied, joined, ifNone, periodIn, counted, sameAs, tallyChecks}
+use Rattle.accuracy.specs.Demand.{OfferDemanded}
+use Rattle.accuracy.specs.Laws.{Apart, periodEnergy}
+use Rattle.accuracy.proofs.Tests.{cond-both, first-limit, reached-equal}
+use Rattle.accuracy.proofs.Lists.{padded-set, raised-within}
+use Rattle.accuracy.proofs.Sums.{held-more}
+use Rattle.accuracy.proofs.Windows.{highest-stretch, stretch-energy, Admitted, admits}
+use Rattle.accuracy.proofs.Agreement.{periodOfParts, periodFrom, highestFrom, dayFrom, Bounded, Agrees, period-from, book-at, count-at}
+
+-- the rules against a day that a tally gives are the tally's own
+module _ {t : Tally} (b : Bounded t) where
+  used-same : (p : Bool) (class : ℕ) → usedUp (periodOf (dayFrom t) p) class ≡ eqb (getD (t .count p) class 0) (getD (t .book p) class 0)
+  used-same p class = rw (period-from t p, book-at b p class, count-at b p class) (reached-equal _ _ (b .counts p class))
+
+  pub checks-same : (o : Offering) → dayChecks (dayFrom t) o ≡ tallyChecks t o
+  checks-same o =
+      let class = o .conditions .class in
+      rw (first-limit (length (t .book true)) mostClasses class (b .most), used-same (periodIn o) class)
+
+-- days that differ in their periods and their highest level
+day-same : {classes end : ℕ} {d d′ n n′ : Period} {h h′ : HighestLevel}
+    → d ≡ d′ → n ≡ n′ → h ≡ h′
+    → _≡_ {A = Day}
+    (record { classes = classes; daytime = d; night = n; end = record { 0 = end }; highest = h })
+    (record { classes = classes; daytime = d′; night = n′; end = record { 0 = end }; highest = h′ })
+day-same {classes} {end} p q r = λ i. record { classes = classes; daytime = p i; night = q i; end = record { 0 = end }; highest = r i }
+
+-- a class has flights left in a period
+abbrev HasRoom : Tally → ℕ → Bool → Type 0
+HasRoom t class p = getD (t .count p) class 0 < getD (t .book p) class 0
+
+-- the tally with one stretch more, of a class
+abbrev withStretch : Tally → ℕ → Held → Tally
+withStretch t class h =
+    record { book = t .book; end = h .to; count = counted (t .count) (h .daytime) class; stretches = h ∷ t .stretches }
+
+module _ {t : Tally} (b : Bounded t) (class : ℕ) (booked : class < length (t .book true)) where
+  in-counts : (p : Bool) → class < length (t .count p)
+  in-counts p = rw (b .counted p) booked
+
+  -- the day with the event is the day of the tally with the stretch
+  with-event : (p : Bool) (S : ℕ)
+      → withEvent (periodFrom t p) class S
+      ≡ periodOfParts (t .book p) (set (t .count p) class (getD (t .count p) class 0 + 1)) (S + periodEnergy p (t .stretches))
+  with-event p S =
+      rw (
+        count-at b p class,
+        padded-set mostClasses (t .count p) class (getD (t .count p) class 0 + 1) (in-counts p),
+        limbsOf-add 4 (periodEnergy p (t .stretches)) S,
+        add-comm (periodEnergy p (t .stretches)) S,
+      )
+
+  without-event : (p : Bool) → periodFrom t p ≡ periodOfParts (t .book p) (t .count p) (0 + periodEnergy p (t .stretches))
+  without-event p = rw (zero-add (periodEnergy p (t .stretches)))
+
+  event-same : (p : Bool) (from to : ℕ) (levels : List ℕ) {top : ℕ} → top ≡ highest levels
+      → withPeriod (dayFrom t) p
+      (withEvent (periodOf (dayFrom t) p) class (energies levels))
+      (record { 0 = to })
+      (raised (highestFrom (t .stretches)) (record { 0 = top }))
+      ≡ dayFrom (withStretch t class (record { daytime = p; from = from; to = to; levels = levels }))
+  unfolding periodEnergy
+  event-same true from to levels e = day-same (with-event true (energies levels)) (without-event false) (rw e)
+  event-same false from to levels e = day-same (without-event true) (with-event false (energies levels)) (rw e)
+
+  -- a count is raised, and stays within the book where it has room there
+  counted-length : (p q : Bool) → length (counted (t .count) p class q) ≡ length (t .book true)
+  counted-length p q = cond-both (λ l. length l ≡ length (t .book true)) (sameAs p q) (length-set (t .count q) class _ ∙ b .counted q) (b .counted q)
+
+  raised-count : (p : Bool) → HasRoom t class p → (k : ℕ) → getD (set (t .count p) class (getD (t .count p) class 0 + 1)) k 0 ≤ getD (t .book p) k 0
+  raised-count p g = raised-within (t .count p) (t .book p) class (in-counts p) g (b .counts p)
+
+  counted-within : (p : Bool) → HasRoom t class p → (q : Bool) (k : ℕ) → getD (counted (t .count) p class q) k 0 ≤ getD (t .book q) k 0
+  counted-within true g true = raised-count true g
+  counted-within true g false = b .counts false
+  counted-within false g true = b .counts true
+  counted-within false g false = raised-count false g
+
+apart-later : {a c : ℕ} (hs : List Held) → a ≤ c → Apart a hs → Apart c hs
+apart-later [] l p = tt
+apart-later (h ∷ hs) l p = (le-trans (p .0) l, p .1, p .2)
+
+-- an offer that no rule of the tally refuses
+module _ {t : Tally} (b : Bounded t) (o : Offering) (free : firstOf (tallyChecks t o) ≡ 0) where
+  admission : Admitted o
+      (leb (length (t .book true)) (o .conditions .class))
+      (t .end)
+      (eqb (getD (t .count (periodIn o)) (o .conditions .class) 0) (getD (t .book (periodIn o)) (o .conditions .class) 0))
+  admission = admits o _ _ _ free
+
+  in-book : o .conditions .class < length (t .book true)
+  in-book = leb-false _ _ (admission .booked)
+
+  joined-same : entered (dayFrom t) (o .conditions) (measuredOf (o .samples)) ≡ dayFrom (joined t o)
+  joined-same =
+      let c = o .conditions in
+      let s = o .samples in
+      event-same b (c .class) in-book (periodIn o) (c .start + stretchFirst s) (c .start + stretchEnd s) (stretchOf s)
+      (sym (highest-stretch s (admission .some)))
+
+  joined-bounded : Bounded (joined t o)
+  joined-bounded =
+      let class = o .conditions .class in
+      let s = o .samples in
+      let p = periodIn o in
+      let a = admission in
+      let count = getD (t .count p) class 0 in
+      let flights = getD (t .book p) class 0 in
+      let room : HasRoom t class p = omega (arith, b .counts p class, eqb-false count flights (a .unused)) in
+      let places = peak-inside s (refl, refl) (refl, refl) (a .some) in
+      record {
+        some = b .some;
+        most = b .most;
+        booked = b .booked;
+        counted = counted-length b class in-book p;
+        counts = counted-within b class in-book p room;
+        day = omega (arith, within s, a .past);
+        apart = (le-refl _, omega arith, apart-later (t .stretches) (a .after) (b .apart));
+        energy =
+            rw held-more
+            (omega (arith, b .energy, mul-le-mul-left (e highestSample) (a .after), stretch-energy highestSample s (a .level)));
+      }
+
+-- what comes of an offer, by the number that the tally's rules give
+abbrev outcome : Tally → Offering → ℕ → OfferReading
+outcome t o n = ifAdmitted n (dayFrom t) (admitted (dayFrom t) (o .conditions) (measuredOf (o .samples)))
+
+module _ {t : Tally} (b : Bounded t) (o : Offering) where
+  offered-same : offered (dayFrom t) o ≡ outcome t o (firstOf (tallyChecks t o))
+  offered-same = ap (λ (rules : List Rule). outcome t o (firstOf rules)) (checks-same b o)
+
+  pub offer-keeps : Agrees (tallied t (offering o)) (offered (dayFrom t) o .day)
+  offer-keeps = rw offered-same (by-number (firstOf (tallyChecks t o)) refl)
+    where
+      by-number : (n : ℕ) → firstOf (tallyChecks t o) ≡ n → Agrees (ifNone n t (joined t o)) (outcome t o n .day)
+      by-number zero h = record { same = joined-same b o h; bounded = joined-bounded b o h }
+      by-number (suc n) h = record { same = refl; bounded = b }
+
+  pub offer-demanded : (K : ℕ) → OfferDemanded K t o (offered (dayFrom t) o .answer)
+  offer-demanded K = rw offered-same (by-number (firstOf (tallyChecks t o)) refl)
+    where
+      by-number : (n : ℕ) → firstOf (tallyChecks t o) ≡ n → OfferDemanded K t o (outcome t o n .answer)
+      by-number zero h = (h, refl, exposure-accurate K (o .samples))
+      by-number (suc n) h = (h, omega arith)

@@ -1,0 +1,69 @@
+-- What is known of the stretch of an offer that no rule refuses. Assumes nothing.
+use mathlib.Core.Path.{_≡_, refl, sym, ap, _∙_}
+use mathlib.Core.Bool.{Bool, false}
+use mathlib.Core.List.{List}
+use Prim.Native.Nat.{ℕ, _+_, _-_, _*_, _≤_, _<_}
+use native.Mathlib.Nat.{le-trans, le-antisymm}
+use native.Mathlib.Omega.{arith}
+use borrow.Author.Tests.{ltb-false}
+use borrow.Author.Needs.{needs}
+use lib.Dec.{ltb}
+use lib.ListN.{length, getD, take}
+use lib.Seq.{length-slice, getD-take, getD-drop}
+use Rattle.quantity.specs.Rules.{firstOf}
+use Rattle.quantity.proofs.Refusing.{pass}
+use Rattle.power.specs.Power.{e}
+use Rattle.event.specs.Clock.{dayTicks, shortestWindow, longestWindow}
+use Rattle.event.specs.Window.{highest, peakOf, anyAbove}
+use Rattle.event.specs.Stretch.{stretchFirst, stretchEnd, stretchOf}
+use Rattle.event.specs.Event.{energies}
+use Rattle.event.proofs.Runs.{peaks, highest-above}
+use Rattle.event.proofs.Whole.{any-above, within, peak-inside}
+use Rattle.ledger.specs.Offer.{Offering, offerChecks, highestSample}
+use Rattle.quantity.proofs.Tests.{neither}
+use Rattle.accuracy.proofs.Lists.{highest-slice, energies-most}
+
+-- the stretch has the window's highest level
+pub highest-stretch : (s : List ℕ) → 0 < length s → highest (stretchOf s) ≡ highest s
+highest-stretch s h =
+    let i = peak-inside s (refl, refl) (refl, refl) h in
+    let n : stretchFirst s + (peakOf s - stretchFirst s) ≡ peakOf s = omega arith in
+    let at : getD (stretchOf s) (peakOf s - stretchFirst s) 0 ≡ highest s =
+    getD-drop (stretchFirst s) (take (stretchEnd s) s) (peakOf s - stretchFirst s) 0
+    ∙ (rw (n, getD-take (stretchEnd s) s (peakOf s) 0 (i .1)) (peaks s h .there)) in
+    le-antisymm (highest-slice (stretchFirst s) (stretchEnd s) s) (rw at at (highest-above (stretchOf s) (peakOf s - stretchFirst s)))
+
+-- its energy is at most that of as many samples at a level that none passes
+pub stretch-energy : (c : ℕ) (s : List ℕ) → highest s ≤ c → energies (stretchOf s) + e c * stretchFirst s ≤ e c * stretchEnd s
+stretch-energy c s h =
+    let w = within s in
+    let n : stretchFirst s + (stretchEnd s - stretchFirst s) ≡ stretchEnd s = omega arith in
+    let all : e c * (stretchFirst s + (stretchEnd s - stretchFirst s)) ≡ e c * stretchEnd s = ap (λ (k : ℕ). e c * k) n in
+    let most = rw (length-slice (stretchFirst s) (stretchEnd s) s (w .end)) at
+    (energies-most c (stretchOf s) (le-trans (highest-slice (stretchFirst s) (stretchEnd s) s) h)) in
+    omega arith
+
+-- what no refusal says of an offer: 1 and 2, 3, 4, 8 and 9
+pub record Admitted (o : Offering) (unbooked : Bool) (end : ℕ) (used : Bool) : Type 0 where
+  pub some : 0 < length (o .samples)
+  pub past : o .conditions .start + length (o .samples) ≤ dayTicks
+  pub booked : unbooked ≡ false
+  pub level : highest (o .samples) ≤ highestSample
+  pub after : end ≤ o .conditions .start + stretchFirst (o .samples)
+  pub unused : used ≡ false
+
+pub admits : (o : Offering) (unbooked : Bool) (end : ℕ) (used : Bool) → firstOf (offerChecks o unbooked end used) ≡ 0 → Admitted o unbooked end used
+admits o unbooked end used h =
+    let c = o .conditions in
+    let n = length (o .samples) in
+    let p = pass (offerChecks o unbooked end used) (search needs) h in
+    let count = neither (ltb n shortestWindow) (ltb longestWindow n) (p .0) in
+    let high = neither (anyAbove highestSample (o .samples)) (ltb highestSample (c .background)) (p .1 .1 .1 .0) in
+    record {
+      some = omega (arith, ltb-false n shortestWindow (count .0));
+      past = ltb-false dayTicks (c .start + n) (p .1 .0);
+      booked = p .1 .1 .0;
+      level = ltb-false highestSample (highest (o .samples)) (sym (any-above highestSample (o .samples)) ∙ high .0);
+      after = ltb-false (c .start + stretchFirst (o .samples)) end (p .1 .1 .1 .1 .1 .1 .1 .0);
+      unused = p .1 .1 .1 .1 .1 .1 .1 .1 .0;
+    }

@@ -1,0 +1,4 @@
+pub mod Tally
+pub mod Terminal
+pub mod Demand
+pub mod Laws

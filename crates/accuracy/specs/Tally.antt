@@ -1,0 +1,121 @@
+-- Document 01, 'Day': the plain tally of demand 3. It is fed the arguments of opening and of each offer and closing, and no answers.
+use mathlib.Core.Bool.{Bool, true, false, cond}
+use mathlib.Core.List.{List, [], _∷_, _++_}
+use Prim.Native.Nat.{ℕ, zero, suc, _+_}
+use lib.Dec.{leb, eqb}
+use lib.ListN.{length, getD, set, replicate}
+use Rattle.quantity.specs.Rules.{Rule, firstOf}
+use Rattle.level.specs.Accuracy.{Sample, weigh}
+use Rattle.event.specs.Event.{measuredOf}
+use Rattle.event.specs.Stretch.{stretchOf, stretchFirst, stretchEnd}
+use Rattle.ledger.specs.Book.{sumOf}
+use Rattle.ledger.specs.Offer.{Offering, offerChecks, inDaytime}
+use Rattle.closing.specs.Close.{Counts}
+
+-- the calls after opening, with their arguments: an offer, and a closing with the calibration levels before and after
+pub data Call : Type 0 where
+  offering : Offering → Call
+  closing : (before after : ℕ) → Call
+
+-- a stretch of the list, with its period: its samples, and the time of the first and the time after the last
+pub record Held : Type 0 where
+  pub daytime : Bool
+  pub from : ℕ
+  pub to : ℕ
+  pub levels : List ℕ
+
+-- the book, an end, a count for each class and period, and a list of stretches with their periods, the latest first. A period is given by a
+-- Bool: true is daytime.
+pub record Tally : Type 0 where
+  pub book : Bool → List ℕ
+  pub end : ℕ
+  pub count : Bool → List ℕ
+  pub stretches : List Held
+
+-- the book of two lists of flights
+abbrev pub bookOf : List ℕ → List ℕ → Bool → List ℕ
+bookOf daytime night p = cond p daytime night
+
+-- it starts with the fresh day's end, counts 0 and no stretch
+abbrev pub started : List ℕ → List ℕ → Tally
+started daytime night =
+    record {
+      book = bookOf daytime night;
+      end = 0;
+      count = λ p. replicate (length daytime) 0;
+      stretches = [];
+    }
+
+-- the period of an offer, by its peak
+abbrev pub periodIn : Offering → Bool
+periodIn o = inDaytime (o .conditions) (measuredOf (o .samples))
+
+-- the refusals of an offer in their order, 8 against the end and 9 against the counts
+abbrev pub tallyChecks : Tally → Offering → List Rule
+tallyChecks t o =
+    let class = o .conditions .class in
+    offerChecks o
+    (leb (length (t .book true)) class)
+    (t .end)
+    (eqb (getD (t .count (periodIn o)) class 0) (getD (t .book (periodIn o)) class 0))
+
+-- the count of a class and period is raised by one
+abbrev pub sameAs : Bool → Bool → Bool
+sameAs true b = b
+sameAs false true = false
+sameAs false false = true
+
+abbrev pub counted : (Bool → List ℕ) → Bool → ℕ → Bool → List ℕ
+counted count p class q = cond (sameAs p q) (set (count q) class (getD (count q) class 0 + 1)) (count q)
+
+-- an offer that no rule refuses: the end, the count and the list of stretches change
+abbrev pub joined : Tally → Offering → Tally
+joined t o =
+    let c = o .conditions in
+    record {
+      book = t .book;
+      end = c .start + stretchEnd (o .samples);
+      count = counted (t .count) (periodIn o) (c .class);
+      stretches =
+          record {
+            daytime = periodIn o;
+            from = c .start + stretchFirst (o .samples);
+            to = c .start + stretchEnd (o .samples);
+            levels = stretchOf (o .samples);
+          }
+          ∷ t .stretches;
+    }
+
+-- one call: an offer that a rule refuses is left out, and a closing, refused or not, changes nothing
+abbrev pub ifNone : ℕ → Tally → Tally → Tally
+ifNone zero t next = next
+ifNone (suc n) t next = t
+
+abbrev pub tallied : Tally → Call → Tally
+tallied t (offering o) = ifNone (firstOf (tallyChecks t o)) t (joined t o)
+tallied t (closing before after) = t
+
+-- a list of calls, the first of the list first
+abbrev pub tallyOf : Tally → List Call → Tally
+tallyOf t [] = t
+tallyOf t (c ∷ cs) = tallyOf (tallied t c) cs
+
+-- the numbers that choose the method: Nd and Nn of the book, the primed ones from the counts
+abbrev pub tallyCounts : Tally → Counts
+tallyCounts t =
+    record {
+      dayFlights = sumOf (t .book true);
+      nightFlights = sumOf (t .book false);
+      dayEvents = sumOf (t .count true);
+      nightEvents = sumOf (t .count false);
+      share = λ k.
+          record {
+            flights = getD (t .book true) k 0 + getD (t .book false) k 0;
+            events = getD (t .count true) k 0 + getD (t .count false) k 0;
+          };
+    }
+
+-- the samples of the stretches, each with the weight of its period
+abbrev pub heldSamples : (Bool → ℕ) → List Held → List Sample
+heldSamples weight [] = []
+heldSamples weight (h ∷ hs) = weigh (weight (h .daytime)) (h .levels) ++ heldSamples weight hs

@@ -1,0 +1,14 @@
+-- The terminal over lists of calls: the day that a list leaves, by the definition that the contract of an offer cites.
+use mathlib.Core.List.{List, [], _∷_}
+use Rattle.ledger.specs.Offer.{offered}
+use Rattle.ledger.specs.declared.Day.{Day}
+use Rattle.accuracy.specs.Tally.{Call, offering, closing}
+
+-- the day after a call; closing reads the day and changes nothing
+abbrev pub dayAfter : Day → Call → Day
+dayAfter day (offering o) = offered day o .day
+dayAfter day (closing before after) = day
+
+abbrev pub dayOf : Day → List Call → Day
+dayOf day [] = day
+dayOf day (c ∷ cs) = dayOf (dayAfter day c) cs
