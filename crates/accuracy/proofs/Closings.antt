@@ -18,6 +18,7 @@ use Rattle.accuracy.specs.Demand.{CloseDemanded}
 use Rattle.accuracy.specs.Laws.{periodEnergy}
 use Rattle.quantity.proofs.Tests.{both}
 use Rattle.accuracy.proofs.Sums.{weighted-held}
+use Rattle.accuracy.proofs.Held.{highest-from}
 use Rattle.accuracy.proofs.Agreement.{highestFrom, dayFrom, Bounded, book-at, count-at, book-sum, count-sum, sum-whole}
 
 -- the numbers that choose the method are the tally's
@@ -69,6 +70,7 @@ module _ {t : Tally} (b : Bounded t) (before after : ℕ) where
             refl,
             refl,
             refl,
+            highest-from (t .stretches),
             rw (weighted-held weight (t .stretches)) at
                 (accurate K (heldSamples weight (t .stretches)) (offsetOf c) (divisorOf c) positive),
           )

@@ -7,3 +7,4 @@ pub mod Held
 pub mod Offers
 pub mod Closings
 pub mod Claim
+pub mod Means

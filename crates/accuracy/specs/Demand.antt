@@ -17,6 +17,7 @@ use Rattle.closing.specs.Close.{CloseResult, closedOf, closeRules, methodOf, da
 use Rattle.closing.specs.Close as closes
 use Rattle.accuracy.specs.Tally.{Call, offering, closing, Tally, started, tallyOf, tallyChecks, tallyCounts, heldSamples}
 use Rattle.accuracy.specs.Terminal.{dayOf}
+use Rattle.accuracy.specs.Laws.{highestHeld}
 
 -- An accepted offer: the tally takes it in, and its own stretch is summed with w = 1, M = 10. A refused one: the tally leaves it out, by the
 -- same number.
@@ -27,8 +28,8 @@ OfferDemanded K t o (offers.accepted exposure lmax) =
     × Accurate 1 1 0 K samplesASecond (weigh 1 (stretchOf (o .samples))) exposure
 OfferDemanded K t o (offers.refused n) = (firstOf (tallyChecks t o) ≡ n) × (0 < n)
 
--- A closing: the method and the primed numbers are those of the tally's counts, and the stretches that the tally then holds are summed with
--- the weights, the divisor and the offset of the method. Or 11 or 12, by the tally's counts.
+-- A closing: the method and the primed numbers are those of the tally's counts, the highest level is that of the stretches that the tally then
+-- holds, and these are summed with the weights, the divisor and the offset of the method. Or 11 or 12, by the tally's counts.
 abbrev pub CloseDemanded : ℕ → Tally → (before after : ℕ) → CloseResult → Type 0
 CloseDemanded K t before after (closes.closed ldn method dayEvents nightEvents highest) =
     let c = tallyCounts t in
@@ -36,6 +37,7 @@ CloseDemanded K t before after (closes.closed ldn method dayEvents nightEvents h
     × (method ≡ methodOf c)
     × (dayEvents ≡ c .dayEvents)
     × (nightEvents ≡ c .nightEvents)
+    × (highest ≡ highestHeld (t .stretches))
     × Accurate 1 1 (offsetOf c) K (divisorOf c) (heldSamples (λ p. cond p (dayWeightOf c) (nightWeightOf c)) (t .stretches)) ldn
 CloseDemanded K t before after (closes.refused n) = (firstOf (closeRules before after (tallyCounts t)) ≡ n) × (0 < n)
 

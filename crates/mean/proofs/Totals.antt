@@ -1,0 +1,226 @@
+-- The total of days of which none is too high is the very sum of their powers: 366 days stay far below 2 ^ 192. Assumes nothing.
+use mathlib.Core.Path.{_≡_, refl, sym, ap, _∙_}
+use mathlib.Core.Bool.{Bool, true, false, _||_, cond}
+use mathlib.Core.List.{List, [], _∷_, _++_}
+use Prim.Native.Nat.{ℕ, zero, suc, _+_, _*_, _%_, _^_, _≤_, _<_, zero-le}
+use native.Mathlib.Nat.{add-comm, add-zero, zero-add, le-trans, lt-of-le-of-lt, mul-le-mul-right, le-refl}
+use native.Mathlib.Numerals.{add-one}
+use native.Mathlib.Omega.{arith}
+use borrow.Author.Tests.{ltb-false, lt-ltb, le-ltb, leb-false, lt-leb, le-leb, eqb-true, ne-eqb}
+use borrow.Author.Needs.{needs}
+use lib.Dec.{ltb, leb, eqb, lit<, lit≤}
+use lib.ListN.{length, take, getD, set, replicate}
+use lib.Seq.{take-suc, take-length}
+use Rattle.quantity.specs.Answers.{Reading, level, below-scale, reading, refusalNumber, checkNumber}
+use Rattle.quantity.specs.Rules.{firstOf}
+use Rattle.quantity.specs.declared.DayAnswer.{DayAnswer}
+use Rattle.quantity.proofs.Refusing.{pass, refusal-positive}
+use Rattle.quantity.proofs.Tests.{neither}
+use Rattle.quantity.specs.declared.Check.{Check}
+use Rattle.quantity.specs.declared.Check.the-variants.{Refused}
+use Rattle.quantity.specs.declared.Refusal.{Refusal}
+use Rattle.power.specs.Power.{e, G}
+use Rattle.power.proofs.Scale.{e-mono, e-at, m-zero}
+use Rattle.limbs.specs.Value.{base, value, limbsOf}
+use Rattle.limbs.proofs.Digits.{limbsOf-add, value-limbsOf-whole}
+use Rattle.level.specs.Level.{levelOf}
+use Rattle.mean.specs.Mean.{energyOf, sumOf, highestDay, isTooHigh, anyTooHigh, isCountWrong, meanRules, MeanResult, mean, refused, ifAllowed, meanOf}
+use Rattle.mean.specs.Records.{readings, blank, ReadResult, recordAt, found, dayReading, rewriteRules, rewriteNumber, ifWritten, rewritten}
+use Rattle.mean.specs.Records.{refused as missing}
+use Rattle.mean.specs.Total.{noDays, withDay, withRead, totalOf, daysCounted, closedOf}
+use Rattle.mean.specs.declared.Total.{Total}
+
+-- limbs to which a number modulo base ^ w is added
+pub added-modulo : (w k l : ℕ) → k ≡ w → l ≡ w → (v n : ℕ) {a : List ℕ} → a ≡ limbsOf l n → limbsOf k (v + value a) ≡ limbsOf w (v + n)
+added-modulo w k l hk hl v n h = rw (hk, h, hl, add-comm v (value (limbsOf w n)), limbsOf-add w n v, add-comm n v)
+
+-- ---- one day more
+pub with-high : (t : Total) {c : ℕ} → highestDay < c → record { sum = t .sum; high = true } ≡ withDay t (level c)
+with-high t h = rw (lt-ltb _ _ h)
+
+pub with-more : (t : Total) {c : ℕ} {s : List ℕ} → c ≤ highestDay → s ≡ limbsOf 6 (value (t .sum) + e c) → record { sum = s; high = t .high } ≡ withDay t (level c)
+with-more t h i = rw (le-ltb _ _ h, i)
+
+or-none : (a : Bool) → a ≡ (a || false)
+or-none true = refl
+or-none false = refl
+
+or-all : (a : Bool) → true ≡ (a || true)
+or-all true = refl
+or-all false = refl
+
+or-assoc : (a b c : Bool) → ((a || b) || c) ≡ (a || (b || c))
+or-assoc true b c = refl
+or-assoc false b c = refl
+
+day-high : (t : Total) (day : Reading) → withDay t day .high ≡ (t .high || isTooHigh day)
+day-high t (level c) = go (ltb highestDay c)
+  where
+    go : (b : Bool) → cond {A = Total} b (record { sum = t .sum; high = true }) (record { sum = limbsOf 6 (value (t .sum) + e c); high = t .high }) .high ≡ (t .high || b)
+    go true = or-all (t .high)
+    go false = or-none (t .high)
+day-high t below-scale = or-none (t .high)
+
+total-high : (t : Total) (days : List Reading) → totalOf t days .high ≡ (t .high || anyTooHigh days)
+unfolding totalOf anyTooHigh
+total-high t [] = or-none (t .high)
+total-high t (day ∷ days) =
+    total-high (withDay t day) days
+    ∙ ap (λ (b : Bool). b || anyTooHigh days) (day-high t day)
+    ∙ or-assoc (t .high) (isTooHigh day) (anyTooHigh days)
+
+-- a day's power is at most e(20000)
+highest-power : e highestDay ≡ 10 ^ 29
+highest-power = e-at 20 0 (lit≤ tt) ∙ ap (λ (n : ℕ). n * 10 ^ 20) m-zero
+
+day-below : (day : Reading) → isTooHigh day ≡ false → energyOf day ≤ 10 ^ 29
+day-below (level c) h = rw (← highest-power) (e-mono (ltb-false highestDay c h))
+day-below below-scale h = zero-le
+
+sum-below : (days : List Reading) → anyTooHigh days ≡ false → sumOf days ≤ length days * 10 ^ 29
+unfolding sumOf anyTooHigh
+sum-below [] h = le-refl 0
+sum-below (day ∷ days) h =
+    let n = neither (isTooHigh day) (anyTooHigh days) h in
+    omega (arith, day-below day (n .0), sum-below days (n .1))
+
+-- ---- no sum wraps
+module _ (v x s B : ℕ) (h : v + (x + s) < B) where
+  first-fits : v + x < B
+  first-fits = omega arith
+
+  rest-fits : (w : ℕ) → w ≡ v + x → w + s < B
+  rest-fits w g = omega arith
+
+  regrouped : (w u : ℕ) → w ≡ v + x → u ≡ w + s → u ≡ v + (x + s)
+  regrouped w u g i = omega arith
+
+day-sum : (t : Total) (day : Reading) → isTooHigh day ≡ false → value (t .sum) + energyOf day < base ^ 6 → value (withDay t day .sum) ≡ value (t .sum) + energyOf day
+day-sum t (level c) h l = rw h (value-limbsOf-whole 6 (value (t .sum) + e c) l)
+day-sum t below-scale h l = sym (add-zero (value (t .sum)))
+
+total-sum : (t : Total) (days : List Reading) → anyTooHigh days ≡ false → value (t .sum) + sumOf days < base ^ 6 → value (totalOf t days .sum) ≡ value (t .sum) + sumOf days
+unfolding totalOf anyTooHigh sumOf
+total-sum t [] h l = sym (add-zero (value (t .sum)))
+total-sum t (day ∷ days) h l =
+    let n = neither (isTooHigh day) (anyTooHigh days) h in
+    let d = day-sum t day (n .0) (first-fits _ _ _ _ l) in
+    regrouped _ _ _ _ l _ _ d (total-sum (withDay t day) days (n .1) (rest-fits _ _ _ _ l _ d))
+
+no-sum : value (noDays .sum) ≡ 0
+unfolding value
+no-sum = refl
+
+-- the total of a year without a level that is too high
+year-sum : (days : List Reading) → anyTooHigh days ≡ false → length days ≤ 366 → value (totalOf noDays days .sum) ≡ sumOf days
+year-sum days h l =
+    let few : sumOf days ≤ 366 * 10 ^ 29 = le-trans (sum-below days h) (mul-le-mul-right (10 ^ 29) l) in
+    let fits : value (noDays .sum) + sumOf days < base ^ 6 = rw (no-sum, zero-add (sumOf days)) (lt-of-le-of-lt few (lit< tt)) in
+    total-sum noDays days h fits ∙ ap (λ (n : ℕ). n + sumOf days) no-sum ∙ zero-add (sumOf days)
+
+-- ---- the mean from the total
+counted-all : (fewest most n : ℕ) → isCountWrong fewest most n ≡ false → (fewest ≤ n) × (n ≤ most)
+counted-all fewest most n h =
+    let p = neither (ltb n fewest) (ltb most n) h in
+    (ltb-false n fewest (p .0), ltb-false most n (p .1))
+
+pub counted-few : (fewest most n : ℕ) → most ≤ 366 → daysCounted (isCountWrong fewest most n) n ≤ 366
+counted-few fewest most n h = go (isCountWrong fewest most n) refl
+  where
+    go : (b : Bool) → isCountWrong fewest most n ≡ b → daysCounted b n ≤ 366
+    go true q = zero-le
+    go false q = omega (arith, counted-all fewest most n q .1)
+
+pub counted-within : (wrong : Bool) (n : ℕ) → daysCounted wrong n ≤ n
+counted-within true n = zero-le
+counted-within false n = le-refl n
+
+pub mean-closed : (fewest most : ℕ) (days : List Reading) → 0 < fewest → most ≤ 366
+    → (let n = daysCounted (isCountWrong fewest most (length days)) (length days) in closedOf (totalOf noDays (take n days)) n) ≡ meanOf fewest most days
+unfolding closedOf meanOf firstOf
+mean-closed fewest most days positive few = go (isCountWrong fewest most (length days)) refl
+  where
+    whole : (high : Bool) → anyTooHigh days ≡ high → length days ≤ 366
+        → ifAllowed (firstOf (meanRules false high)) (levelOf 0 (length days) (value (totalOf noDays days .sum)))
+        ≡ ifAllowed (firstOf (meanRules false high)) (levelOf 0 (length days) (sumOf days))
+    whole true q l = refl
+    whole false q l = ap (λ (s : ℕ). mean (levelOf 0 (length days) s)) (year-sum days q l)
+
+    go : (b : Bool) → isCountWrong fewest most (length days) ≡ b
+        → closedOf (totalOf noDays (take (daysCounted b (length days)) days)) (daysCounted b (length days))
+        ≡ ifAllowed (firstOf (meanRules b (anyTooHigh days))) (levelOf 0 (length days) (sumOf days))
+    go true q = refl
+    go false q =
+        let p = counted-all fewest most (length days) q in
+        rw (take-length days, ne-eqb (length days) 0 (omega arith), total-high noDays days) (whole (anyTooHigh days) refl (omega arith))
+
+-- ---- the records
+pub length-readings : (days : List DayAnswer) → length (readings days) ≡ length days
+unfolding readings
+length-readings [] = refl
+length-readings (day ∷ days) = ap suc (length-readings days)
+
+reading-at : (days : List DayAnswer) (place : ℕ) → getD (readings days) place (level 0) ≡ reading (getD days place blank .level)
+unfolding readings
+reading-at [] place = refl
+reading-at (day ∷ days) zero = refl
+reading-at (day ∷ days) (suc place) = reading-at days place
+
+total-snoc : (t : Total) (days : List Reading) (day : Reading) → totalOf t (days ++ (day ∷ [])) ≡ withDay (totalOf t days) day
+unfolding totalOf
+total-snoc t [] day = refl
+total-snoc t (x ∷ xs) day = total-snoc (withDay t x) xs day
+
+pub record-found : (days : List DayAnswer) (place : ℕ) → place < length days → recordAt days place ≡ found (dayReading (getD days place blank))
+unfolding recordAt firstOf
+record-found days place h = rw (lt-leb _ _ h)
+
+pub record-missing : (days : List DayAnswer) (place : ℕ) → length days ≤ place → recordAt days place ≡ missing 13
+unfolding recordAt firstOf
+record-missing days place h = rw (le-leb _ _ h)
+
+-- the total of the first k records
+unfoldable pub totalTo : List DayAnswer → ℕ → Total
+totalTo days k = totalOf noDays (take k (readings days))
+
+pub total-none : (days : List DayAnswer) → noDays ≡ totalTo days 0
+unfolding totalTo totalOf
+total-none days = refl
+
+pub total-next : (days : List DayAnswer) (k : ℕ) {t : Total} {r : ReadResult} → k < length days → r ≡ recordAt days k → t ≡ withRead (totalTo days k) r → t ≡ totalTo days (k + 1)
+unfolding totalTo
+total-next days k h read more =
+    let inside : k < length (readings days) = rw (length-readings days) h in
+    more
+    ∙ ap (withRead (totalOf noDays (take k (readings days)))) (read ∙ record-found days k h)
+    ∙ ap (withDay (totalOf noDays (take k (readings days)))) (sym (reading-at days k))
+    ∙ sym (total-snoc noDays (take k (readings days)) (getD (readings days) k (level 0)))
+    ∙ ap (totalOf noDays) (sym (take-suc (readings days) k (level 0) inside) ∙ ap (λ (n : ℕ). take n (readings days)) (sym (add-one k)))
+
+-- the mean of all records, where as many of them are added up as are counted
+pub mean-total : (fewest most : ℕ) (days : List DayAnswer) → 0 < fewest → most ≤ 366
+    → (let n = daysCounted (isCountWrong fewest most (length days)) (length days) in closedOf (totalTo days n) n) ≡ meanOf fewest most (readings days)
+unfolding totalTo
+mean-total fewest most days positive few = rw (← length-readings days) (mean-closed fewest most (readings days) positive few)
+
+-- a check that refuses has a number
+pub not-passed : {check : Check} {r : Refusal} → check ≡ Refused r → false ≡ eqb (checkNumber check) 0
+not-passed {check} {r} h = sym (ap (λ (k : Check). eqb (checkNumber k) 0) h ∙ ne-eqb (refusalNumber r) 0 (omega (arith, refusal-positive r)))
+
+-- ---- a rewritten record
+pub not-written : (days : List DayAnswer) (place : ℕ) (new : DayAnswer) {n : ℕ} → n ≡ rewriteNumber (length days) place new → eqb n 0 ≡ false → days ≡ rewritten days place new
+unfolding rewritten
+not-written days place new {n} h f = go n f ∙ ap (λ (k : ℕ). ifWritten k (set days place new) days) h
+  where
+    go : (k : ℕ) → eqb k 0 ≡ false → days ≡ ifWritten k (set days place new) days
+    go zero e = absurd (let z : _≡_ {A = ℕ} 0 1 = cc in omega arith)
+    go (suc k) e = refl
+
+module _ (days : List DayAnswer) (place : ℕ) (new : DayAnswer) {n : ℕ} (h : n ≡ rewriteNumber (length days) place new) (t : eqb n 0 ≡ true) where
+  pub written : set days place new ≡ rewritten days place new
+  unfolding rewritten
+  written = ap (λ (k : ℕ). ifWritten k (set days place new) days) (sym (eqb-true n 0 t) ∙ h)
+
+  pub written-within : place < length days
+  unfolding rewriteNumber
+  written-within = leb-false (length days) place (pass (rewriteRules (length days) place new) (search needs) (sym h ∙ eqb-true n 0 t) .0)

@@ -1,0 +1,30 @@
+-- `mean::closed` meets its contract: each refusal is the first rule that refuses, and the mean is the level over the days. Assumes nothing.
+use borrow.Author.Needs.{needs}
+use Rattle.mean.specs.Total.{closedOf}
+use Rattle.mean.specs.Mean.{mean}
+use Rattle.quantity.specs.Rules.{firstOf}
+use mathlib.Core.Path.{ap}
+use borrow.Author.Tests.{eq-eqb, ne-eqb}
+use Rattle.mean.proofs.closed.Statement.{statement}
+use Rattle.mean.proofs.closed.Tie as tie
+
+returns : tie.Need-returns
+unfolding closedOf firstOf
+returns c = rw (eq-eqb _ _ (c .if1 .taken))
+
+returns-2 : tie.Need-returns-2
+unfolding closedOf firstOf
+returns-2 c = rw (ne-eqb _ _ (c .before .if1 .left), c .if2 .taken)
+
+cast-level-over : tie.Need-cast-level-over
+cast-level-over c = search needs
+
+level-over-requires : tie.Need-level-over-requires
+level-over-requires c κs = search needs
+
+returns-3 : tie.Need-returns-3
+unfolding closedOf firstOf
+returns-3 c = rw (ne-eqb _ _ (c .before .before .if1 .left), c .before .if2 .left) (ap mean (c .level-over .ensures))
+
+pub closed-spec : {M : Type 1} → statement M
+closed-spec = tie.close (tie.spec returns returns-2 cast-level-over level-over-requires returns-3)

@@ -1,0 +1,207 @@
+// The weekly and the yearly mean of days' levels (6-5, 6-6), and the year's records, which the caller lends as a run of day answers.
+ghost use mathlib.Core.Path.{_≡_};
+ghost use Prim.Native.Nat.{_+_, _≤_, _<_};
+ghost use lib.Dec.{eqb};
+ghost use lib.ListN.{length};
+ghost use Rattle.quantity.specs.Answers.{reading, checkNumber};
+ghost use Rattle.power.specs.Power.{e};
+ghost use Rattle.limbs.specs.Value.{value, limbsOf};
+ghost use Rattle.mean.specs.Mean.{isTooHigh, isCountWrong, meanResult, meanOf, weekMeanOf, yearMeanOf};
+ghost use Rattle.mean.specs.Records.{readings, readResult, recordAt, rewriteNumber, rewritten};
+ghost use Rattle.mean.specs.Total.{noDays, withDay, withRead, daysCounted, closedOf};
+use quantity::Check;
+use quantity::DayAnswer;
+use quantity::Level;
+use quantity::LevelAnswer;
+use quantity::Refusal;
+
+// No day's level is above it.
+const HIGHEST_DAY: u32 = 20000;
+
+// A mean, or why it is refused.
+pub enum MeanAnswer {
+    Mean(LevelAnswer),
+    Refused(Refusal),
+}
+
+// The record at a place of the year, or why it is refused.
+pub enum ReadAnswer {
+    Record(DayAnswer),
+    Refused(Refusal),
+}
+
+// The sum of e over some days as six limbs, and whether one of their levels was too high.
+pub struct Total {
+    pub sum: [u32; 6],
+    pub high: bool,
+}
+
+// Refusal 14: a day's level is too high.
+fn is_too_high(level: LevelAnswer) -> bool
+    ensures { λ r. ⌜ r ≡ isTooHigh (reading level) ⌝ }
+{
+    match level {
+        LevelAnswer::At(at) => HIGHEST_DAY < at.0,
+        LevelAnswer::BelowScale => false,
+    }
+}
+
+// A sum with e of one level more, modulo 2^192.
+fn sum_with(sum: [u32; 6], level: Level) -> [u32; 6]
+    ensures { λ r. ⌜ r ≡ limbsOf 6 (value sum + e (level .0)) ⌝ }
+{
+    let power = power::power_of(level);
+    let mut added = [0u32; 6];
+    limbs::put(&mut added, power.mantissa);
+    limbs::scale_by_power_of_ten(&mut added, power.exponent);
+    let mut next = sum;
+    limbs::add(&mut next, &added);
+    next
+}
+
+// The total of no days.
+fn no_days() -> Total
+    ensures { λ r. ⌜ r ≡ noDays ⌝ }
+{
+    Total {
+        sum: [0u32; 6],
+        high: false,
+    }
+}
+
+// A total with one day's level more.
+fn with_day(total: Total, level: LevelAnswer) -> Total
+    ensures { λ r. ⌜ r ≡ withDay total (reading level) ⌝ }
+{
+    let sum = total.sum;
+    match level {
+        LevelAnswer::At(at) => if HIGHEST_DAY < at.0 {
+            Total { sum, high: true }
+        } else {
+            Total {
+                sum: sum_with(sum, at),
+                high: total.high,
+            }
+        },
+        LevelAnswer::BelowScale => total,
+    }
+}
+
+// A total with the day of a record that was read.
+fn with_read(total: Total, read: ReadAnswer) -> Total
+    ensures { λ r. ⌜ r ≡ withRead total (readResult read) ⌝ }
+{
+    match read {
+        ReadAnswer::Record(day) => {
+            let level = day.level;
+            with_day(total, level)
+        }
+        ReadAnswer::Refused(_) => total,
+    }
+}
+
+// The number of days that a mean adds up: none where it is not from the fewest to the most.
+fn days_counted(count: usize, fewest: usize, most: usize) -> usize
+    ensures { λ r. ⌜ r ≡ daysCounted (isCountWrong fewest most count) count ⌝ }
+{
+    if count < fewest {
+        return 0;
+    }
+    if most < count {
+        return 0;
+    }
+    count
+}
+
+// The mean of a total over the number of days that were added up.
+fn closed(total: Total, days: usize) -> MeanAnswer
+    requires { ⌜ days ≤ 366 ⌝ }
+    ensures { λ r. ⌜ meanResult r ≡ closedOf total days ⌝ }
+{
+    let sum = total.sum;
+    if days == 0 {
+        return MeanAnswer::Refused(Refusal::DayCount);
+    }
+    if total.high {
+        return MeanAnswer::Refused(Refusal::RecordLevelTooHigh);
+    }
+    MeanAnswer::Mean(level::level_over(sum, days as u32, 0))
+}
+
+// Refusals 13 and 14 of rewriting a record.
+fn check_rewrite(count: usize, place: usize, new: DayAnswer) -> Check
+    ensures { λ r. ⌜ checkNumber r ≡ rewriteNumber count place new ⌝ }
+{
+    let level = new.level;
+    if count <= place {
+        return Check::Refused(Refusal::DayCount);
+    }
+    if is_too_high(level) {
+        return Check::Refused(Refusal::RecordLevelTooHigh);
+    }
+    Check::Passed
+}
+
+// Whether a check lets a call through.
+fn is_passed(check: Check) -> bool
+    ensures { λ r. ⌜ r ≡ eqb (checkNumber check) 0 ⌝ }
+{
+    match check {
+        Check::Passed => true,
+        Check::Refused(_) => false,
+    }
+}
+
+// The record at a place of the year.
+pub fn read_record(days: &[DayAnswer], place: usize) -> ReadAnswer
+    ensures { λ r. ⌜ readResult r ≡ recordAt (now (days .entry)) place ⌝ }
+{
+    if days.len() <= place {
+        return ReadAnswer::Refused(Refusal::DayCount);
+    }
+    ReadAnswer::Record(days[place])
+}
+
+// Puts a new record at a place of the year.
+pub fn rewrite_record(days: &mut [DayAnswer], place: usize, new: DayAnswer) -> Check
+    ensures { λ r.
+        ⌜
+        (checkNumber r ≡ rewriteNumber (length (now (days .entry))) place new) × (now (days .exit) ≡ rewritten (now (days .entry)) place new)
+        ⌝ }
+{
+    let answer = check_rewrite(days.len(), place, new);
+    if is_passed(answer) {
+        days[place] = new;
+    }
+    answer
+}
+
+// The mean of all the days, where their number is from the fewest to the most.
+fn mean_over(days: &[DayAnswer], fewest: usize, most: usize) -> MeanAnswer
+    requires { ⌜ (0 < fewest) × (most ≤ 366) ⌝ }
+    ensures { λ r. ⌜ meanResult r ≡ meanOf fewest most (readings (now (days .entry))) ⌝ }
+{
+    let counted = days_counted(days.len(), fewest, most);
+    let mut total = no_days();
+    let mut place: usize = 0;
+    while place < counted {
+        let read = read_record(days, place);
+        total = with_read(total, read);
+        place = place + 1;
+    }
+    closed(total, counted)
+}
+
+// The mean of a week, of exactly 7 days.
+pub fn week_mean(days: &[DayAnswer]) -> MeanAnswer
+    ensures { λ r. ⌜ meanResult r ≡ weekMeanOf (readings (now (days .entry))) ⌝ }
+{
+    mean_over(days, 7, 7)
+}
+
+// The mean of a year, of 1 to 366 days.
+pub fn year_mean(days: &[DayAnswer]) -> MeanAnswer
+    ensures { λ r. ⌜ meanResult r ≡ yearMeanOf (readings (now (days .entry))) ⌝ }
+{
+    mean_over(days, 1, 366)
+}
