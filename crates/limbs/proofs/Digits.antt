@@ -2,7 +2,7 @@
 use Prim.Native.Nat.{ℕ, suc, zero, _+_, _*_, _/_, _%_, _^_, _<_}
 use mathlib.Core.Path.{_≡_, refl, ap, ap₂, sym, _∙_}
 use mathlib.Core.List.{List, [], _∷_}
-use native.Mathlib.Nat.{add-mul, add-zero, mul-assoc, mul-right-comm, zero-mul, pow-zero, pow-suc, one-le-pow, mod-eq-of-lt, div-add-mod'}
+use native.Mathlib.Nat.{add-mul, add-zero, mul-assoc, mul-right-comm, zero-mul, pow-zero, pow-suc, one-le-pow, mod-eq-of-lt, div-add-mod', add-comm}
 use native.Mathlib.Omega.{arith}
 use lib.Arith.{mod-mul}
 use lib.ListN.{length}
@@ -72,3 +72,7 @@ module _ (k n x : ℕ) where
       let p : n / W * W * x + n % W * x ≡ n * x = sym (add-mul (n / W * W) (n % W) x) ∙ ap (λ (m : ℕ). m * x) (div-add-mod' n W) in
       let e : n * x ≡ n % W * x + n / W * x * W = omega (arith, p, mul-right-comm (n / W) W x) in
       rw (value-limbsOf k n, e) (sym (limbsOf-shift k (n % W * x) (n / W * x)))
+
+-- limbs to which a number modulo base ^ w is added
+pub added-modulo : (w k l : ℕ) → k ≡ w → l ≡ w → (v n : ℕ) {a : List ℕ} → a ≡ limbsOf l n → limbsOf k (v + value a) ≡ limbsOf w (v + n)
+added-modulo w k l hk hl v n h = rw (hk, h, hl, add-comm v (value (limbsOf w n)), limbsOf-add w n v, add-comm n v)

@@ -3,7 +3,7 @@ use mathlib.Core.Path.{_≡_, refl, sym, ap, _∙_}
 use mathlib.Core.Bool.{Bool, true, false, _||_, cond}
 use mathlib.Core.List.{List, [], _∷_, _++_}
 use Prim.Native.Nat.{ℕ, zero, suc, _+_, _*_, _%_, _^_, _≤_, _<_, zero-le}
-use native.Mathlib.Nat.{add-comm, add-zero, zero-add, le-trans, lt-of-le-of-lt, mul-le-mul-right, le-refl}
+use native.Mathlib.Nat.{add-zero, zero-add, le-trans, lt-of-le-of-lt, mul-le-mul-right, le-refl}
 use native.Mathlib.Numerals.{add-one}
 use native.Mathlib.Omega.{arith}
 use borrow.Author.Tests.{ltb-false, lt-ltb, le-ltb, leb-false, lt-leb, le-leb, eqb-true, ne-eqb}
@@ -22,7 +22,7 @@ use Rattle.quantity.specs.declared.Refusal.{Refusal}
 use Rattle.power.specs.Power.{e, G}
 use Rattle.power.proofs.Scale.{e-mono, e-at, m-zero}
 use Rattle.limbs.specs.Value.{base, value, limbsOf}
-use Rattle.limbs.proofs.Digits.{limbsOf-add, value-limbsOf-whole}
+use Rattle.limbs.proofs.Digits.{value-limbsOf-whole}
 use Rattle.level.specs.Level.{levelOf}
 use Rattle.mean.specs.Mean.{energyOf, sumOf, highestDay, isTooHigh, anyTooHigh, isCountWrong, meanRules, MeanResult, mean, refused, ifAllowed, meanOf}
 use Rattle.mean.specs.Records.{readings, blank, ReadResult, recordAt, found, dayReading, rewriteRules, rewriteNumber, ifWritten, rewritten}
@@ -30,11 +30,7 @@ use Rattle.mean.specs.Records.{refused as missing}
 use Rattle.mean.specs.Total.{noDays, withDay, withRead, totalOf, daysCounted, closedOf}
 use Rattle.mean.specs.declared.Total.{Total}
 
--- limbs to which a number modulo base ^ w is added
-pub added-modulo : (w k l : ℕ) → k ≡ w → l ≡ w → (v n : ℕ) {a : List ℕ} → a ≡ limbsOf l n → limbsOf k (v + value a) ≡ limbsOf w (v + n)
-added-modulo w k l hk hl v n h = rw (hk, h, hl, add-comm v (value (limbsOf w n)), limbsOf-add w n v, add-comm n v)
-
--- ---- one day more
+-- one day more
 pub with-high : (t : Total) {c : ℕ} → highestDay < c → record { sum = t .sum; high = true } ≡ withDay t (level c)
 with-high t h = rw (lt-ltb _ _ h)
 
@@ -84,7 +80,7 @@ sum-below (day ∷ days) h =
     let n = neither (isTooHigh day) (anyTooHigh days) h in
     omega (arith, day-below day (n .0), sum-below days (n .1))
 
--- ---- no sum wraps
+-- no sum wraps
 module _ (v x s B : ℕ) (h : v + (x + s) < B) where
   first-fits : v + x < B
   first-fits = omega arith
@@ -118,7 +114,7 @@ year-sum days h l =
     let fits : value (noDays .sum) + sumOf days < base ^ 6 = rw (no-sum, zero-add (sumOf days)) (lt-of-le-of-lt few (lit< tt)) in
     total-sum noDays days h fits ∙ ap (λ (n : ℕ). n + sumOf days) no-sum ∙ zero-add (sumOf days)
 
--- ---- the mean from the total
+-- the mean from the total
 counted-all : (fewest most n : ℕ) → isCountWrong fewest most n ≡ false → (fewest ≤ n) × (n ≤ most)
 counted-all fewest most n h =
     let p = neither (ltb n fewest) (ltb most n) h in
@@ -154,7 +150,7 @@ mean-closed fewest most days positive few = go (isCountWrong fewest most (length
         let p = counted-all fewest most (length days) q in
         rw (take-length days, ne-eqb (length days) 0 (omega arith), total-high noDays days) (whole (anyTooHigh days) refl (omega arith))
 
--- ---- the records
+-- the records
 pub length-readings : (days : List DayAnswer) → length (readings days) ≡ length days
 unfolding readings
 length-readings [] = refl
@@ -207,7 +203,7 @@ mean-total fewest most days positive few = rw (← length-readings days) (mean-c
 pub not-passed : {check : Check} {r : Refusal} → check ≡ Refused r → false ≡ eqb (checkNumber check) 0
 not-passed {check} {r} h = sym (ap (λ (k : Check). eqb (checkNumber k) 0) h ∙ ne-eqb (refusalNumber r) 0 (omega (arith, refusal-positive r)))
 
--- ---- a rewritten record
+-- a rewritten record
 pub not-written : (days : List DayAnswer) (place : ℕ) (new : DayAnswer) {n : ℕ} → n ≡ rewriteNumber (length days) place new → eqb n 0 ≡ false → days ≡ rewritten days place new
 unfolding rewritten
 not-written days place new {n} h f = go n f ∙ ap (λ (k : ℕ). ifWritten k (set days place new) days) h

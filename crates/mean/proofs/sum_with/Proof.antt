@@ -1,6 +1,6 @@
 -- `mean::sum_with` meets its contract: what is added is e of the level modulo 2^192. Assumes nothing.
 use borrow.Author.Needs.{needs}
-use Rattle.mean.proofs.Totals.{added-modulo}
+use Rattle.limbs.proofs.Digits.{added-modulo}
 use mathlib.Core.Path.{sym, ap, _∙_}
 use Rattle.mean.proofs.sum_with.Statement.{statement}
 use Rattle.mean.proofs.sum_with.Tie as tie
