@@ -1,3 +1,4 @@
+-- The proof of demand 3, from laws on tests and lists to the whole claim.
 pub mod Tests
 pub mod Lists
 pub mod Sums

@@ -1,2 +1,3 @@
+-- The laws that the proofs of `ledger` share.
 pub mod Lists
 pub mod Answers

@@ -1,3 +1,4 @@
+-- What the contracts of `ledger` cite: the book, the day and its opening, and what comes of an offer.
 pub mod Book
 pub mod Day
 pub mod Offer

@@ -1,2 +1,3 @@
+-- The laws that every crate cites: tables of refusals, and tests.
 pub mod Refusing
 pub mod Tests
