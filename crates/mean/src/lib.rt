@@ -37,7 +37,7 @@ pub struct Total {
 }
 
 // Refusal 14: a day's level is too high.
-fn is_too_high(level: LevelAnswer) -> bool
+pub fn is_too_high(level: LevelAnswer) -> bool
     ensures { λ r. ⌜ r ≡ isTooHigh (reading level) ⌝ }
 {
     match level {
@@ -60,7 +60,7 @@ fn sum_with(sum: [u32; 6], level: Level) -> [u32; 6]
 }
 
 // The total of no days.
-fn no_days() -> Total
+pub fn no_days() -> Total
     ensures { λ r. ⌜ r ≡ noDays ⌝ }
 {
     Total {
@@ -70,7 +70,7 @@ fn no_days() -> Total
 }
 
 // A total with one day's level more.
-fn with_day(total: Total, level: LevelAnswer) -> Total
+pub fn with_day(total: Total, level: LevelAnswer) -> Total
     ensures { λ r. ⌜ r ≡ withDay total (reading level) ⌝ }
 {
     let sum = total.sum;
@@ -101,7 +101,7 @@ fn with_read(total: Total, read: ReadAnswer) -> Total
 }
 
 // The number of days that a mean adds up: none where it is not from the fewest to the most.
-fn days_counted(count: usize, fewest: usize, most: usize) -> usize
+pub fn days_counted(count: usize, fewest: usize, most: usize) -> usize
     ensures { λ r. ⌜ r ≡ daysCounted (isCountWrong fewest most count) count ⌝ }
 {
     if count < fewest {
@@ -114,7 +114,7 @@ fn days_counted(count: usize, fewest: usize, most: usize) -> usize
 }
 
 // The mean of a total over the number of days that were added up.
-fn closed(total: Total, days: usize) -> MeanAnswer
+pub fn closed(total: Total, days: usize) -> MeanAnswer
     requires { ⌜ days ≤ 366 ⌝ }
     ensures { λ r. ⌜ meanResult r ≡ closedOf total days ⌝ }
 {

@@ -1,0 +1,3 @@
+-- The laws that the proofs of `report` share.
+pub mod Decimal
+pub mod Fields

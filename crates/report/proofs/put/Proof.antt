@@ -1,0 +1,76 @@
+-- `report::put` meets its contract. The loop's invariant: the line is the line at entry with the first `i` bytes pasted at `at`.
+-- The measure is what is left of the bytes. Assumes nothing.
+use mathlib.Core.Path.{_≡_, refl}
+use Prim.Native.Nat.{_-_, _≤_}
+use native.Mathlib.Numerals.{add-one}
+use native.Mathlib.Omega.{arith}
+use borrow.Author.Needs.{needs}
+use lib.ListN.{length}
+use lib.Seq.{paste, paste-zero, paste-suc, take-paste, take-length}
+use Rattle.report.proofs.put.Statement.{statement}
+use Rattle.report.proofs.put.Tie as tie
+
+abbrev Inv-loop : tie.InvT-loop
+Inv-loop line₀ at bytes i₀ line i = (i ≤ length bytes) × (length line ≡ length line₀) × (line ≡ paste line₀ at bytes i)
+
+abbrev μ-loop : tie.MeasureT-loop
+μ-loop line₀ at bytes i₀ line i = length bytes - i
+
+loop-holds : tie.Need-loop-holds Inv-loop μ-loop
+loop-holds c = let a = c .args in (search needs, refl, paste-zero (a .line .now) (a .at) (a .bytes .now))
+
+shared-slice-read-line : tie.Need-shared-slice-read-line Inv-loop μ-loop
+shared-slice-read-line c = search needs
+
+add-line : tie.Need-add-line Inv-loop μ-loop
+add-line c = search needs
+
+slice-write-line : tie.Need-slice-write-line Inv-loop μ-loop
+slice-write-line c = search needs
+
+add-i : tie.Need-add-i Inv-loop μ-loop
+add-i c = search needs
+
+loop-less : tie.Need-loop-less Inv-loop μ-loop
+loop-less c = search needs
+
+loop-again : tie.Need-loop-again Inv-loop μ-loop
+loop-again c =
+    let s = c .before .before in
+    let a = s .before .args in (
+      search needs,
+      search needs,
+      rw (s .loop .inv .2, add-one) (paste-suc (a .line .now) (a .at) (a .bytes .now) (s .loop .i) 0 (omega arith) (omega arith)),
+    )
+
+add-result : tie.Need-add-result Inv-loop μ-loop
+add-result c = search needs
+
+same-length : tie.Need-same-length Inv-loop μ-loop
+same-length c = search needs
+
+returns : tie.Need-returns Inv-loop μ-loop
+returns c =
+    let s = c .before in
+    let a = s .before .args in
+    let all : s .loop .i ≡ length (a .bytes .now) = omega arith in (
+      rw (s .loop .inv .2, all, take-paste (a .line .now) (a .at) (a .bytes .now) (length (a .bytes .now)) (omega arith) (omega arith), take-length),
+      refl,
+    )
+
+pub put-spec : {M : Type 1} → statement M
+put-spec =
+    tie.close
+    (tie.spec
+    Inv-loop
+    μ-loop
+    loop-holds
+    shared-slice-read-line
+    add-line
+    slice-write-line
+    add-i
+    loop-less
+    loop-again
+    add-result
+    same-length
+    returns)

@@ -1,0 +1,68 @@
+-- `report::put_closing` meets its contract: one field behind the other. Assumes nothing.
+use borrow.Author.Needs.{needs}
+use lib.ListN.{take}
+use Rattle.closing.specs.Close.{closeResult}
+use Rattle.closing.specs.declared.CloseAnswer.the-variants.{Closed}
+use Rattle.report.specs.Text.{closeFields}
+use Rattle.report.proofs.Fields.{fields}
+use Rattle.report.proofs.put_closing.Statement.{statement}
+use Rattle.report.proofs.put_closing.Tie as tie
+
+put-letter-requires : tie.Need-put-letter-requires
+put-letter-requires c κs = search needs
+
+put-level-requires : tie.Need-put-level-requires
+put-level-requires c κs = search needs
+
+method-number-requires : tie.Need-method-number-requires
+method-number-requires c κs = search needs
+
+cast-put-number : tie.Need-cast-put-number
+cast-put-number c = search needs
+
+put-number-requires : tie.Need-put-number-requires
+put-number-requires c κs = search needs
+
+put-number-requires-2 : tie.Need-put-number-requires-2
+put-number-requires-2 c κs = search needs
+
+put-number-requires-3 : tie.Need-put-number-requires-3
+put-number-requires-3 c κs = search needs
+
+put-highest-requires : tie.Need-put-highest-requires
+put-highest-requires c κs = search needs
+
+returns : tie.Need-returns
+returns c =
+    let by-night = c .before .before in
+    let by-day = by-night .before .before in
+    let method = by-day .before .before in
+    let level = method .before .before .before in
+    let letter = level .before .before in
+    let a = letter .before .before .before .args in (
+      rw (
+        c .put-highest .ensures .0,
+        by-night .put-number3 .ensures .0,
+        by-day .put-number2 .ensures .0,
+        method .put-number .ensures .0,
+        method .before .method-number .ensures,
+        level .put-level .ensures .0,
+        letter .put-letter .ensures .0,
+      )
+          (fields (take (a .at) (a .line .now)) (closeFields (closeResult (Closed (a .closing))))),
+      search needs,
+    )
+
+pub put-closing-spec : {M : Type 1} → statement M
+put-closing-spec =
+    tie.close
+    (tie.spec
+    put-letter-requires
+    put-level-requires
+    method-number-requires
+    cast-put-number
+    put-number-requires
+    put-number-requires-2
+    put-number-requires-3
+    put-highest-requires
+    returns)

@@ -1,0 +1,174 @@
+// The lines of the day program, each made into a lent buffer.
+ghost use mathlib.Core.Path.{_≡_};
+ghost use mathlib.Core.List.{[], _∷_, _++_};
+ghost use Prim.Native.Nat.{_+_, _≤_};
+ghost use lib.ListN.{length, take};
+ghost use Rattle.quantity.specs.Answers.{reading, highestReading, refusalNumber};
+ghost use Rattle.ledger.specs.Offer.{offerResult};
+ghost use Rattle.closing.specs.Close.{closeResult};
+ghost use Rattle.io.specs.Counts.{Counts};
+ghost use Rattle.report.specs.Text.{
+  decimal,
+  spaced,
+  readingText,
+  highestText,
+  offerFields,
+  closeFields,
+  letterR,
+  eventLine,
+  dayLine,
+  faultLine,
+};
+use closing::CloseAnswer;
+use closing::Closing;
+use ledger::OfferAnswer;
+use quantity::HighestLevel;
+use quantity::LevelAnswer;
+use quantity::Refusal;
+
+// Puts some bytes behind those that a line has, and gives their number with these.
+fn put(line: &mut [u8], at: usize, bytes: &[u8]) -> usize
+    requires { ⌜ at + length (now bytes) ≤ length (now line) ⌝ }
+    ensures { λ r. ⌜ take r (now (line .exit)) ≡ take at (now (line .entry)) ++ now (bytes .entry) ⌝ }
+    ensures size { λ r. ⌜ r ≡ at + length (now (bytes .entry)) ⌝ }
+{
+    let mut i = 0;
+    while i < bytes.len() {
+        line[at + i] = bytes[i];
+        i += 1;
+    }
+    at + bytes.len()
+}
+
+// Puts a field of one byte.
+fn put_letter(line: &mut [u8; 64], at: usize, letter: u8) -> usize
+    requires { ⌜ at + 2 ≤ 64 ⌝ }
+    ensures { λ r. ⌜ take r (now (line .exit)) ≡ take at (now (line .entry)) ++ spaced ((letter ∷ []) ∷ []) ⌝ }
+    ensures size { λ r. ⌜ r ≤ at + 2 ⌝ }
+{
+    let bytes = [b' ', letter];
+    put(line, at, &bytes)
+}
+
+// Puts a number of at most ten digits.
+fn put_number(line: &mut [u8; 64], at: usize, n: u32) -> usize
+    requires { ⌜ at + 11 ≤ 64 ⌝ }
+    ensures { λ r. ⌜ take r (now (line .exit)) ≡ take at (now (line .entry)) ++ spaced (decimal n ∷ []) ⌝ }
+    ensures size { λ r. ⌜ r ≤ at + 11 ⌝ }
+{
+    let mut digits = [0u8; 20];
+    let count = io::decimal(n as u64, &mut digits);
+    let behind = put(line, at, b" ");
+    put(line, behind, &digits[..count])
+}
+
+// Puts a level, or '-' for below scale.
+fn put_level(line: &mut [u8; 64], at: usize, answer: LevelAnswer) -> usize
+    requires { ⌜ at + 11 ≤ 64 ⌝ }
+    ensures { λ r. ⌜ take r (now (line .exit)) ≡ take at (now (line .entry)) ++ spaced (readingText (reading answer) ∷ []) ⌝ }
+    ensures size { λ r. ⌜ r ≤ at + 11 ⌝ }
+{
+    match answer {
+        LevelAnswer::At(level) => put_number(line, at, level.0),
+        LevelAnswer::BelowScale => put_letter(line, at, b'-'),
+    }
+}
+
+// Puts the highest level, or '-' where there is none.
+fn put_highest(line: &mut [u8; 64], at: usize, highest: HighestLevel) -> usize
+    requires { ⌜ at + 11 ≤ 64 ⌝ }
+    ensures { λ r. ⌜ take r (now (line .exit)) ≡ take at (now (line .entry)) ++ spaced (highestText (highestReading highest) ∷ []) ⌝ }
+    ensures size { λ r. ⌜ r ≤ at + 11 ⌝ }
+{
+    match highest {
+        HighestLevel::At(level) => put_number(line, at, level.0),
+        HighestLevel::Nothing => put_letter(line, at, b'-'),
+    }
+}
+
+// Puts the letter R and the number of a refusal.
+fn put_refusal(line: &mut [u8; 64], at: usize, refusal: Refusal) -> usize
+    requires { ⌜ at + 13 ≤ 64 ⌝ }
+    ensures { λ r. ⌜ take r (now (line .exit)) ≡ take at (now (line .entry)) ++ spaced (letterR ∷ decimal (refusalNumber refusal) ∷ []) ⌝ }
+    ensures size { λ r. ⌜ r ≤ at + 13 ⌝ }
+{
+    let letter = put_letter(line, at, b'R');
+    put_number(line, letter, quantity::refusal_number(refusal) as u32)
+}
+
+// Puts the letter A, LAE and Lmax, or the refusal.
+fn put_offer(line: &mut [u8; 64], at: usize, answer: OfferAnswer) -> usize
+    requires { ⌜ at + 24 ≤ 64 ⌝ }
+    ensures { λ r. ⌜ take r (now (line .exit)) ≡ take at (now (line .entry)) ++ spaced (offerFields (offerResult answer)) ⌝ }
+    ensures size { λ r. ⌜ r ≤ at + 24 ⌝ }
+{
+    match answer {
+        OfferAnswer::Refused(refusal) => put_refusal(line, at, refusal),
+        OfferAnswer::Accepted { exposure, lmax } => {
+            let letter = put_letter(line, at, b'A');
+            let level = put_level(line, letter, exposure);
+            put_number(line, level, lmax.0)
+        }
+    }
+}
+
+// Puts the letter A, Ldn, the method, Nd', Nn' and the highest Lmax.
+fn put_closing(line: &mut [u8; 64], at: usize, closing: Closing) -> usize
+    requires { ⌜ at + 57 ≤ 64 ⌝ }
+    ensures { λ r. ⌜ take r (now (line .exit)) ≡ take at (now (line .entry)) ++ spaced (closeFields (closeResult (CloseAnswer.Closed closing))) ⌝ }
+    ensures size { λ r. ⌜ r ≤ at + 57 ⌝ }
+{
+    let answer = closing.answer;
+    let ldn = answer.level;
+    let method = answer.method;
+    let highest = closing.highest;
+    let letter = put_letter(line, at, b'A');
+    let level = put_level(line, letter, ldn);
+    let number = put_number(line, level, quantity::method_number(method) as u32);
+    let by_day = put_number(line, number, closing.day_events);
+    let by_night = put_number(line, by_day, closing.night_events);
+    put_highest(line, by_night, highest)
+}
+
+// Puts what a closing answers, or the refusal.
+fn put_close(line: &mut [u8; 64], at: usize, answer: CloseAnswer) -> usize
+    requires { ⌜ at + 57 ≤ 64 ⌝ }
+    ensures { λ r. ⌜ take r (now (line .exit)) ≡ take at (now (line .entry)) ++ spaced (closeFields (closeResult answer)) ⌝ }
+    ensures size { λ r. ⌜ r ≤ at + 57 ⌝ }
+{
+    match answer {
+        CloseAnswer::Closed(closing) => put_closing(line, at, closing),
+        CloseAnswer::Refused(refusal) => put_refusal(line, at, refusal),
+    }
+}
+
+// The line of an event: its number, then LAE and Lmax or the refusal.
+pub fn event_line(line: &mut [u8; 64], i: u32, answer: OfferAnswer) -> usize
+    ensures { λ r. ⌜ Counts r (now (line .exit)) ⌝ }
+    ensures { λ r. ⌜ take r (now (line .exit)) ≡ eventLine i (offerResult answer) ⌝ }
+{
+    let letter = put(line, 0, b"E");
+    let number = put_number(line, letter, i);
+    let fields = put_offer(line, number, answer);
+    put(line, fields, b"\n")
+}
+
+// The line of a day: Ldn, the method, Nd', Nn' and the highest Lmax, or the refusal.
+pub fn day_line(line: &mut [u8; 64], answer: CloseAnswer) -> usize
+    ensures { λ r. ⌜ Counts r (now (line .exit)) ⌝ }
+    ensures { λ r. ⌜ take r (now (line .exit)) ≡ dayLine (closeResult answer) ⌝ }
+{
+    let letter = put(line, 0, b"D");
+    let fields = put_close(line, letter, answer);
+    put(line, fields, b"\n")
+}
+
+// The line of a fault.
+pub fn fault_line(line: &mut [u8; 64], refusal: Refusal) -> usize
+    ensures { λ r. ⌜ Counts r (now (line .exit)) ⌝ }
+    ensures { λ r. ⌜ take r (now (line .exit)) ≡ faultLine (refusalNumber refusal) ⌝ }
+{
+    let letter = put(line, 0, b"F");
+    let number = put_number(line, letter, quantity::refusal_number(refusal) as u32);
+    put(line, number, b"\n")
+}

@@ -1,0 +1,122 @@
+-- Document 01, 'Edges': the starred cases as one table of questions and answers. An answer is what the definitions give that the contracts cite.
+use mathlib.Core.Bool.{Bool, false}
+use mathlib.Core.List.{List, [], _∷_}
+use mathlib.Core.Option.{Option, some, none}
+use mathlib.Core.Path.{_≡_}
+use Prim.Native.Nat.{ℕ, zero, suc, _+_}
+use lib.IntN.{ℤ, pos, negℤ}
+use lib.ListN.{length, replicate}
+use Rattle.quantity.specs.Answers.{Reading, level, below-scale}
+use Rattle.quantity.specs.Rules.{Outcome, given}
+use Rattle.power.specs.Power.{m}
+use Rattle.event.specs.Event.{measuredOf}
+use Rattle.ledger.specs.Day.{opened}
+use Rattle.ledger.specs.Offer.{Offering, offered}
+use Rattle.ledger.specs.declared.Day.{Day}
+use Rattle.closing.specs.Close.{CloseResult, closed, closedOf}
+use Rattle.mean.specs.Mean.{MeanResult, mean, weekMeanOf}
+use Rattle.land.specs.Classes.{I}
+use Rattle.land.specs.Verdict.{Assessment, verdictOf}
+use Rattle.land.specs.Answers.{findingReading}
+use Rattle.land.specs.declared.Finding.{Finding}
+use Rattle.land.specs.declared.Finding.the-variants.{Within, OverLevel}
+
+-- a book: the flights of each class by day, and by night
+pub record Book : Type 0 where
+  pub daytime : List ℕ
+  pub night : List ℕ
+
+-- what a case asks for
+pub data Question : Type 0 where
+  -- m(f)
+  mantissa : (f : ℕ) → Question
+  -- LAE of the samples of a window
+  exposure : (samples : List ℕ) → Question
+  -- what closing answers on a day of this book, after these offers
+  closing : Book → List Offering → Question
+  -- the mean of a week's days
+  week : (days : List Reading) → Question
+  -- the verdict for a land class, a year's level, a sensitive building or none, and the highest Lmax
+  verdict : (class : ℕ) (yearly : Reading) (sensitive : Bool) (highest : Option ℕ) → Question
+
+abbrev pub Answer : Question → Type 0
+Answer (mantissa f) = ℕ
+Answer (exposure samples) = Reading
+Answer (closing book offers) = CloseResult
+Answer (week days) = MeanResult
+Answer (verdict class yearly sensitive highest) = Outcome Assessment
+
+-- the day after some offers
+abbrev pub dayOf : Day → List Offering → Day
+dayOf day [] = day
+dayOf day (o ∷ os) = dayOf (offered day o .day) os
+
+-- the definitions' answer; a day is closed with the calibration of the example, 9400 before and after
+abbrev pub answer : (q : Question) → Answer q
+answer (mantissa f) = m f
+answer (exposure samples) = measuredOf samples .exposure
+answer (closing book offers) = closedOf (dayOf (opened (book .daytime) (book .night) .day) offers) 9400 9400
+answer (week days) = weekMeanOf days
+answer (verdict class yearly sensitive highest) = verdictOf class yearly sensitive highest
+
+-- a row of the table
+pub record Row : Type 0 where
+  pub question : Question
+  pub expected : Answer question
+
+infix 70 _is_
+abbrev pub _is_ : (q : Question) → Answer q → Row
+q is a = record { question = q; expected = a }
+
+-- every row's answer is the expected one
+abbrev pub AllHold : List Row → Type 0
+AllHold [] = Unit
+AllHold (r ∷ rs) = (answer (r .question) ≡ r .expected) × AllHold rs
+
+-- a book of one class
+abbrev pub oneClass : ℕ → ℕ → Book
+oneClass daytime night = record { daytime = daytime ∷ []; night = night ∷ [] }
+
+-- the five samples of the example, and so many events of them, the first at a start and each behind the one before
+abbrev pub fiveSamples : List ℕ
+fiveSamples = 6000 ∷ 8000 ∷ 8000 ∷ 8000 ∷ 6000 ∷ []
+
+abbrev pub flyover : (start : ℕ) → Offering
+flyover start =
+    record {
+      conditions = record { start = start; class = 0; wind = 30; wet = false; background = 6000 };
+      samples = fiveSamples;
+    }
+
+abbrev pub flyovers : (count start : ℕ) → List Offering
+flyovers zero start = []
+flyovers (suc n) start = flyover start ∷ flyovers n (start + length fiveSamples)
+
+abbrev pub noon : ℕ
+noon = 432000
+
+-- the last start in daytime, from which the peak is in the night
+abbrev pub lastDaytimeStart : ℕ
+lastDaytimeStart = 791999
+
+-- a verdict with a margin
+abbrev pub assessed : Finding → ℤ → Outcome Assessment
+assessed finding margin = given (record { finding = findingReading finding; margin = some margin })
+
+-- The starred cases in the paper's order. What closing answers is `closed` with Ldn, the method, Nd', Nn' and the highest Lmax. Without a sensitive
+-- building an Lmax above 9000 does not count. In the last two rows, nine of ten flights and eight of nine, the case is the method.
+abbrev pub starred : List Row
+starred =
+    mantissa 500 is 3162277660
+    ∷ exposure fiveSamples is level 7477
+    ∷ closing (oneClass 1 0) (flyovers 1 noon) is closed (level 2540) 1 1 0 (some 8000)
+    ∷ closing (oneClass 0 1) (flyovers 1 lastDaytimeStart) is closed (level 3540) 1 0 1 (some 8000)
+    ∷ closing (oneClass 2 0) (flyovers 1 noon) is closed (level 2838) 2 1 0 (some 8000)
+    ∷ week (level 7000 ∷ replicate 6 (level 6000)) is mean (level 6359)
+    ∷ week (replicate 7 (level 6000)) is mean (level 6000)
+    ∷ closing (oneClass 0 0) [] is closed below-scale 1 0 0 none
+    ∷ verdict I (level 5700) false (some 9001) is assessed Within (pos 0)
+    ∷ verdict I (level 5701) false (some 9001) is assessed OverLevel (negℤ (pos 1))
+    ∷ closing (oneClass 10 0) (flyovers 9 noon) is closed (level 3494) 1 9 0 (some 8000)
+    ∷ closing (oneClass 9 0) (flyovers 8 noon) is closed (level 3491) 2 8 0 (some 8000)
+    ∷ []

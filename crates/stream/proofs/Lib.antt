@@ -1,0 +1,2 @@
+-- The law that the proofs of `stream` share.
+pub mod Moving

@@ -1,0 +1,33 @@
+// Reading standard input through a buffer of fixed size: what is not used up stays, in its order, and what is free is filled again.
+ghost use mathlib.Core.Path.{_≡_};
+ghost use Prim.Native.Nat.{_+_, _-_, _≤_};
+ghost use lib.ListN.{length, take, drop};
+use libc::STDIN_FILENO;
+
+// Moves the bytes from a place up to another to the beginning, and gives their number.
+fn move_to_front(held: &mut [u8], from: usize, to: usize) -> usize
+    requires { ⌜ (from ≤ to) × (to ≤ length (now held)) ⌝ }
+    ensures { λ r. ⌜ take r (now (held .exit)) ≡ take r (drop from (now (held .entry))) ⌝ }
+    ensures size { λ r. ⌜ r ≡ to - from ⌝ }
+    ensures whole { λ _. ⌜ length (now (held .exit)) ≡ length (now (held .entry)) ⌝ }
+{
+    let count = to - from;
+    let mut i = 0;
+    while i < count {
+        held[i] = held[from + i];
+        i += 1;
+    }
+    count
+}
+
+// Moves the bytes from a place up to another to the beginning, fills what is free behind them from standard input, and gives the number of
+// bytes that are held then. It is below the buffer's length only where the input has ended.
+pub fn refill(held: &mut [u8], from: usize, to: usize) -> usize
+    requires { ⌜ (from ≤ to) × (to ≤ length (now held)) ⌝ }
+    ensures { λ r. ⌜ take (to - from) (now (held .exit)) ≡ take (to - from) (drop from (now (held .entry))) ⌝ }
+    ensures size { λ r. ⌜ (to - from ≤ r) × (r ≤ length (now (held .exit))) ⌝ }
+    ensures whole { λ _. ⌜ length (now (held .exit)) ≡ length (now (held .entry)) ⌝ }
+{
+    let kept = move_to_front(held, from, to);
+    kept + io::read_full(STDIN_FILENO, &mut held[kept..])
+}
