@@ -167,6 +167,12 @@ unfolding totalOf
 total-snoc t [] day = refl
 total-snoc t (x ∷ xs) day = total-snoc (withDay t x) xs day
 
+-- the total of the first days with the next one
+pub total-more : (t : Total) (days : List Reading) (k : ℕ) → k < length days → withDay (totalOf t (take k days)) (getD days k (level 0)) ≡ totalOf t (take (k + 1) days)
+total-more t days k h =
+    sym (total-snoc t (take k days) (getD days k (level 0)))
+    ∙ ap (totalOf t) (sym (take-suc days k (level 0) h) ∙ ap (λ (n : ℕ). take n days) (sym (add-one k)))
+
 pub record-found : (days : List DayAnswer) (place : ℕ) → place < length days → recordAt days place ≡ found (dayReading (getD days place blank))
 unfolding recordAt firstOf
 record-found days place h = rw (lt-leb _ _ h)
@@ -186,12 +192,10 @@ total-none days = refl
 pub total-next : (days : List DayAnswer) (k : ℕ) {t : Total} {r : ReadResult} → k < length days → r ≡ recordAt days k → t ≡ withRead (totalTo days k) r → t ≡ totalTo days (k + 1)
 unfolding totalTo
 total-next days k h read more =
-    let inside : k < length (readings days) = rw (length-readings days) h in
     more
     ∙ ap (withRead (totalOf noDays (take k (readings days)))) (read ∙ record-found days k h)
     ∙ ap (withDay (totalOf noDays (take k (readings days)))) (sym (reading-at days k))
-    ∙ sym (total-snoc noDays (take k (readings days)) (getD (readings days) k (level 0)))
-    ∙ ap (totalOf noDays) (sym (take-suc (readings days) k (level 0) inside) ∙ ap (λ (n : ℕ). take n (readings days)) (sym (add-one k)))
+    ∙ total-more noDays (readings days) k (rw (length-readings days) h)
 
 -- the mean of all records, where as many of them are added up as are counted
 pub mean-total : (fewest most : ℕ) (days : List DayAnswer) → 0 < fewest → most ≤ 366

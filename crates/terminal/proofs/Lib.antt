@@ -1,0 +1,2 @@
+-- Laws that the proofs of `terminal` share.
+pub mod Records
