@@ -1,0 +1,5 @@
+// The cases of document 01: 'Edges', 'Plausible and false' and every row of 'Refused calls' at its bound, one below and one above. Each line shows
+// what came and what should come; the last one counts the differences.
+fn main() {
+    script::run(true);
+}

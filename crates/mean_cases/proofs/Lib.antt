@@ -1,3 +1,0 @@
--- Laws that the proofs of `mean_cases` share.
-pub mod Loan
-pub mod Lending

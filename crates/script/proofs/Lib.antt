@@ -1,0 +1,3 @@
+-- Laws that the proofs of `script` share.
+pub mod Loan
+pub mod Lending

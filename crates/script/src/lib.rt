@@ -1,0 +1,179 @@
+// A script of calls, read from standard input: each line names a call of an entry point and the answer that should come. Every call is made, and
+// what came is held against what should come.
+//
+//     LABEL: CALL WORDS = ANSWER          a call; answers that are right are parted by '|', and one that is plausible and wrong stands behind ', not'
+//     TEXT                                a line without ':' is a heading
+//
+// The calls are told by their first letter: book, offer, close, week, year, rewrite, verdict, land.
+ghost use mathlib.Core.Path.{_≡_};
+ghost use Prim.Native.Nat.{_≤_};
+ghost use lib.ListN.{length};
+
+mod answers;
+mod calls;
+mod lent;
+mod words;
+
+use crate::answers::Text;
+use ledger::Day;
+use libc::STDOUT_FILENO;
+
+// A line is shorter than this: 6016 numbers of five digits and their spaces are 36096 bytes.
+const LONGEST_LINE: usize = 40960;
+
+// No script has more lines.
+const MOST_LINES: u32 = 1000000;
+
+// The day that the calls so far left, the number of calls, and the number of those whose answer was not right.
+struct Progress {
+    day: Day,
+    calls: u32,
+    different: u32,
+}
+
+// A line in the buffer: from a place up to another, and where the bytes that are held end.
+struct Line {
+    from: usize,
+    to: usize,
+    end: usize,
+}
+
+fn text(bytes: &[u8]) {
+    io::write_all(STDOUT_FILENO, bytes);
+}
+
+// Writes the label of a call, what came, and what should come.
+fn show(label: &[u8], came: &[u8], should: &[u8]) {
+    text(label);
+    text(b":");
+    text(came);
+    text(b", should be");
+    text(should);
+    text(b"\n");
+}
+
+// Whether what came is one of the answers that should come: they are parted by '|' and end before ','.
+fn is_right(came: &[u8], should: &[u8]) -> bool {
+    let end = words::place_of(should, 0, b',');
+    let answers = words::part(should, 0, end);
+    let mut from = 0;
+    while from < end {
+        let to = words::place_of(answers, from, b'|');
+        if check::same(came, words::part(answers, from, to)) {
+            return true;
+        }
+        from = words::behind(to, end);
+    }
+    false
+}
+
+// The number of answers that are not right: 0 or 1. Writes the call of the line where it is 1, or where every call is shown.
+fn judge(came: Text, line: &[u8], colon: usize, equals: usize, shows_all: bool) -> u32 {
+    let bytes = came.bytes;
+    let answer = words::part(&bytes, 0, came.count);
+    let should = words::part(line, words::behind(equals, line.len()), line.len());
+    let label = words::part(line, 0, colon);
+    if is_right(answer, should) {
+        if shows_all {
+            show(label, answer, should);
+        }
+        return 0;
+    }
+    show(label, answer, should);
+    1
+}
+
+// Makes the call of a line whose label ends at a place.
+fn run_call(progress: Progress, line: &[u8], colon: usize, shows_all: bool) -> Progress {
+    let day = progress.day;
+    let equals = words::place_of(line, colon, b'=');
+    let call = words::part(line, std::num::wrapping_add_usize(colon, 2), equals);
+    let made = calls::make(day, call);
+    let after = made.day;
+    let came = made.came;
+    let different = judge(came, line, colon, equals, shows_all);
+    Progress {
+        day: after,
+        calls: std::num::wrapping_add_u32(progress.calls, 1),
+        different: std::num::wrapping_add_u32(progress.different, different),
+    }
+}
+
+// One line: a call, or a heading.
+fn run_line(progress: Progress, line: &[u8], shows_all: bool) -> Progress {
+    let colon = words::place_of(line, 0, b':');
+    if colon < line.len() {
+        return run_call(progress, line, colon, shows_all);
+    }
+    if shows_all {
+        text(line);
+        text(b"\n");
+    }
+    progress
+}
+
+// The line that begins at a place.
+fn line_at(held: &[u8], from: usize, end: usize) -> Line
+    ensures { λ r. ⌜ r .end ≡ end ⌝ }
+{
+    Line {
+        from,
+        to: words::place_of(words::part(held, 0, end), from, b'\n'),
+        end,
+    }
+}
+
+// The line behind another. The buffer is filled again where less than a line is left.
+fn line_behind(held: &mut [u8], line: Line) -> Line
+    requires { ⌜ line .end ≤ length (now held) ⌝ }
+    ensures { λ r. ⌜ r .end ≤ length (now (held .exit)) ⌝ }
+    ensures whole { λ _. ⌜ length (now (held .exit)) ≡ length (now (held .entry)) ⌝ }
+{
+    let end = line.end;
+    let from = words::behind(line.to, end);
+    if end - from < LONGEST_LINE {
+        let filled = stream::refill(held, from, end);
+        return line_at(held, 0, filled);
+    }
+    line_at(held, from, end)
+}
+
+// Runs every line of standard input, read through a buffer.
+fn run_lines(held: &mut [u8], shows_all: bool) -> Progress {
+    let mut progress = Progress {
+        day: ledger::no_day(),
+        calls: 0,
+        different: 0,
+    };
+    let mut line = Line {
+        from: 0,
+        to: 0,
+        end: 0,
+    };
+    let mut lines = 0;
+    while lines < MOST_LINES {
+        let next = line_behind(held, line);
+        line = next;
+        if line.from == line.end {
+            break;
+        }
+        let after = run_line(progress, words::part(held, line.from, line.to), shows_all);
+        progress = after;
+        lines += 1;
+    }
+    progress
+}
+
+fn show_counts(calls: u32, different: u32) {
+    io::print_decimal(STDOUT_FILENO, calls as u64);
+    text(b" calls, ");
+    io::print_decimal(STDOUT_FILENO, different as u64);
+    text(b" different\n");
+}
+
+// Runs the script on standard input. Writes every call, or those alone whose answer is not right, and last the number of calls and of differences.
+pub fn run(shows_all: bool) {
+    let mut held = io::large_buffer();
+    let progress = run_lines(&mut held, shows_all);
+    show_counts(progress.calls, progress.different);
+}
