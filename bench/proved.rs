@@ -1,0 +1,48 @@
+// The proved library, linked as a static library.
+use crate::{Ledger, Offer};
+
+const NOTHING: u32 = u32::MAX;
+
+#[link(name = "terminal", kind = "static")]
+extern "C" {
+    fn moatburdock_open_day(day: *mut u8, daytime: *const u16, classes: usize, night: *const u16, others: usize) -> u8;
+    fn moatburdock_offer(day: *mut u8, start: u32, class: u8, wind: u16, wet: bool, background: u32, samples: *const u16, count: usize, exposure: *mut u32,
+        lmax: *mut u32) -> u8;
+    fn moatburdock_close_day(day: *const u8, before: u32, after: u32, record: *mut u64, counts: *mut u32) -> u8;
+    fn moatburdock_year_mean(records: *const u64, count: usize, level: *mut u32) -> u8;
+}
+
+pub struct Day([u8; 172]);
+
+fn level(n: u32) -> Option<u32> {
+    if n == NOTHING { None } else { Some(n) }
+}
+
+impl Ledger for Day {
+    fn open(daytime: &[u16], night: &[u16]) -> Self {
+        let mut day = [0; 172];
+        unsafe { moatburdock_open_day(day.as_mut_ptr(), daytime.as_ptr(), daytime.len(), night.as_ptr(), night.len()) };
+        Day(day)
+    }
+
+    fn offer(&mut self, offer: &Offer) -> Result<(Option<u32>, u32), u8> {
+        let (mut exposure, mut lmax) = (0, 0);
+        let answer = unsafe {
+            moatburdock_offer(self.0.as_mut_ptr(), offer.start, offer.class, 30, false, 0, offer.samples.as_ptr(), offer.samples.len(), &mut exposure, &mut lmax)
+        };
+        if answer == 0 { Ok((level(exposure), lmax)) } else { Err(answer) }
+    }
+
+    fn close(&self) -> Result<Option<u32>, u8> {
+        let (mut record, mut counts) = (0, [0; 3]);
+        let answer = unsafe { moatburdock_close_day(self.0.as_ptr(), 9400, 9400, &mut record, counts.as_mut_ptr()) };
+        if answer == 0 { Ok(level(record as u32)) } else { Err(answer) }
+    }
+
+    fn year(levels: &[Option<u32>]) -> Option<u32> {
+        let records: Vec<u64> = levels.iter().map(|l| (1 << 32) + l.unwrap_or(NOTHING) as u64).collect();
+        let mut mean = 0;
+        unsafe { moatburdock_year_mean(records.as_ptr(), records.len(), &mut mean) };
+        level(mean)
+    }
+}

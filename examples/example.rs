@@ -1,0 +1,62 @@
+// Opens a day, offers two fly-overs, closes it, and forms a year of such days. Built and run by examples/run_rust.
+#[link(name = "terminal", kind = "static")]
+extern "C" {
+    fn moatburdock_open_day(day: *mut u8, daytime: *const u16, classes: usize, night: *const u16, others: usize) -> u8;
+    fn moatburdock_offer(day: *mut u8, start: u32, class: u8, wind: u16, wet: bool, background: u32, samples: *const u16, count: usize,
+        exposure: *mut u32, lmax: *mut u32) -> u8;
+    fn moatburdock_close_day(day: *const u8, before: u32, after: u32, record: *mut u64, counts: *mut u32) -> u8;
+    fn moatburdock_year_mean(records: *const u64, count: usize, level: *mut u32) -> u8;
+}
+
+/// A refusal, by its number.
+#[derive(Debug)]
+struct Refused(u8);
+
+fn checked(answer: u8) -> Result<(), Refused> {
+    if answer == 0 { Ok(()) } else { Err(Refused(answer)) }
+}
+
+/// A day, in memory of its own.
+struct Day([u8; 172]);
+
+impl Day {
+    fn open(daytime: &[u16], night: &[u16]) -> Result<Day, Refused> {
+        let mut day = [0; 172];
+        checked(unsafe { moatburdock_open_day(day.as_mut_ptr(), daytime.as_ptr(), daytime.len(), night.as_ptr(), night.len()) })?;
+        Ok(Day(day))
+    }
+
+    /// LAE and Lmax of a fly-over.
+    fn offer(&mut self, start: u32, class: u8, samples: &[u16]) -> Result<(u32, u32), Refused> {
+        let (mut exposure, mut lmax) = (0, 0);
+        checked(unsafe {
+            moatburdock_offer(self.0.as_mut_ptr(), start, class, 30, false, 6000, samples.as_ptr(), samples.len(), &mut exposure, &mut lmax)
+        })?;
+        Ok((exposure, lmax))
+    }
+
+    /// The day's record.
+    fn close(&self) -> Result<u64, Refused> {
+        let (mut record, mut counts) = (0, [0; 3]);
+        checked(unsafe { moatburdock_close_day(self.0.as_ptr(), 9400, 9400, &mut record, counts.as_mut_ptr()) })?;
+        Ok(record)
+    }
+}
+
+fn main() -> Result<(), Refused> {
+    let samples = [6000, 8000, 8000, 8000, 6000];
+    let mut day = Day::open(&[1], &[1])?;
+    for start in [432000, 800000] {
+        let (exposure, lmax) = day.offer(start, 0, &samples)?;
+        println!("a fly-over at {}: LAE {:.2} dB, Lmax {:.2} dB", start, exposure as f64 / 100.0, lmax as f64 / 100.0);
+    }
+    let record = day.close()?;
+    println!("the day: Ldn {:.2} dB by method {}", record as u32 as f64 / 100.0, record >> 32);
+    let mut mean = 0;
+    checked(unsafe { moatburdock_year_mean([record; 365].as_ptr(), 365, &mut mean) })?;
+    println!("a year of such days: YLdn {:.2} dB", mean as f64 / 100.0);
+    if let Err(Refused(number)) = day.offer(432000, 0, &samples) {
+        println!("a second fly-over at noon: refusal {}", number);
+    }
+    Ok(())
+}

@@ -1,0 +1,100 @@
+/* Moatburdock: the ledger of an airport noise terminal, proved.
+ *
+ * Link with target/staticlib/libterminal.a, which `rt staticlib terminal` writes. The library keeps nothing between calls, allocates nothing and calls
+ * nothing: all that it reads and writes is what it is lent here. It takes about 100 kB of stack.
+ *
+ * Levels are hundredths of a decibel, times tenths of a second after local midnight, wind tenths of m/s.
+ *
+ * Every function answers 0, or the number of the refusal. A refused call leaves all that it was lent as it was; only a refused opening writes the
+ * day, as one of no class, on which every offer is refused. Nothing else is required of the arguments than what C requires: pointers to as many
+ * elements as are stated, that do not overlap where they are written through. Any bytes make a day.
+ *
+ * What each function computes is an equation that is proved for every argument: crates/terminal/specs/Calls.antt, over the definitions of
+ * crates/ledger, closing, mean and land. */
+#ifndef MOATBURDOCK_H
+#define MOATBURDOCK_H
+
+#include <stdbool.h>
+#include <stddef.h>
+#include <stdint.h>
+
+#ifdef __cplusplus
+extern "C" {
+#endif
+
+/* The bytes of a day. Copy them as you like; they hold no pointers. */
+#define MOATBURDOCK_DAY_BYTES 172
+
+/* Stands for 'below scale' where a level is given or taken, and for no Lmax. */
+#define MOATBURDOCK_NOTHING UINT32_MAX
+
+/* Stands for no margin: class IV, or a year below scale. */
+#define MOATBURDOCK_NO_MARGIN INT32_MAX
+
+/* A day's record in one number: its level in the lower 32 bits, its method, 1 or 2, in the upper ones. */
+#define MOATBURDOCK_RECORD(level, method) ((uint64_t)(method) << 32 | (uint32_t)(level))
+#define MOATBURDOCK_LEVEL_OF(record) ((uint32_t)(record))
+#define MOATBURDOCK_METHOD_OF(record) ((uint32_t)((record) >> 32))
+
+/* Why a call is refused. */
+enum moatburdock_refusal {
+    MOATBURDOCK_SAMPLE_COUNT = 1,       /* fewer than 3 samples or more than 6000 */
+    MOATBURDOCK_WINDOW_PAST_DAY_END,    /* start + number of samples above 864000 */
+    MOATBURDOCK_CLASS_NOT_IN_BOOK,      /* the class is not in the book */
+    MOATBURDOCK_LEVEL_TOO_HIGH,         /* a sample, the background or a verdict's Lmax above 14000 */
+    MOATBURDOCK_WEATHER,                /* wet, or wind above 100 */
+    MOATBURDOCK_BACKGROUND_TOO_NEAR,    /* Lmax less than 1500 above the background */
+    MOATBURDOCK_STRETCH_CUT,            /* the stretch touches the first or the last sample */
+    MOATBURDOCK_STRETCH_OVERLAPS,       /* the stretch begins before the end of the last accepted one */
+    MOATBURDOCK_FLIGHTS_USED_UP,        /* as many events of that class and period are accepted as the book has flights */
+    MOATBURDOCK_BOOK_INVALID,           /* not 1 to 16 classes, lists of unequal length, or more than 2000 flights */
+    MOATBURDOCK_CALIBRATION_DRIFT,      /* the calibration levels differ by more than 50 */
+    MOATBURDOCK_NO_METHOD,              /* neither method's conditions hold */
+    MOATBURDOCK_DAY_COUNT,              /* a wrong number of days, or a place that is not there */
+    MOATBURDOCK_RECORD_LEVEL_TOO_HIGH,  /* a day's or a year's level above 20000 */
+    MOATBURDOCK_LAND_UNKNOWN            /* no class 1 to 4, or no such land code */
+};
+
+/* What a verdict names. */
+enum moatburdock_finding {
+    MOATBURDOCK_WITHIN = 0,
+    MOATBURDOCK_OVER_LEVEL,
+    MOATBURDOCK_OVER_MAXIMUM,
+    MOATBURDOCK_BOTH,
+    MOATBURDOCK_NO_LIMIT
+};
+
+/* Opens a day on a book: for each class the flights by day (06:00 to 22:00) and by night. Refusal 10. */
+uint8_t moatburdock_open_day(uint8_t day[MOATBURDOCK_DAY_BYTES], const uint16_t *daytime, size_t daytime_classes, const uint16_t *night,
+                             size_t night_classes);
+
+/* Offers a fly-over: a window of A-levels, ten a second, that begins at start. Accepted, it is added to the day, and the exposure level LAE (or
+ * MOATBURDOCK_NOTHING) and Lmax are given. Refusals 1 to 9, the first in their order that holds. */
+uint8_t moatburdock_offer(uint8_t day[MOATBURDOCK_DAY_BYTES], uint32_t start, uint8_t flight_class, uint16_t wind, bool wet, uint32_t background,
+                          const uint16_t *samples, size_t sample_count, uint32_t *exposure, uint32_t *lmax);
+
+/* Closes a day, with the calibration levels before and after it: gives the day's record (Ldn and its method), and in counts the events by day, those
+ * by night, and the highest Lmax (or MOATBURDOCK_NOTHING). The day is read and not changed; more offers may follow. Refusals 11, then 12. */
+uint8_t moatburdock_close_day(const uint8_t day[MOATBURDOCK_DAY_BYTES], uint32_t before, uint32_t after, uint64_t *day_record, uint32_t counts[3]);
+
+/* The mean of a week, of exactly 7 records, and of a year, of 1 to 366 (formulas 6-5 and 6-6): a level, or MOATBURDOCK_NOTHING. A record below scale
+ * adds nothing and counts as a day. Refusals 13, then 14. */
+uint8_t moatburdock_week_mean(const uint64_t *records, size_t record_count, uint32_t *level);
+uint8_t moatburdock_year_mean(const uint64_t *records, size_t record_count, uint32_t *level);
+
+/* Reads the record at a place of the year, counted from 0, or rewrites it; the other records keep their values. Refusals 13, then 14. */
+uint8_t moatburdock_read_record(const uint64_t *records, size_t record_count, size_t place, uint64_t *day_record);
+uint8_t moatburdock_rewrite_record(uint64_t *records, size_t record_count, size_t place, uint64_t new_record);
+
+/* The verdict on land of a class, 1 to 4, for a year's level, a sensitive building or none, and the highest Lmax (each level may be MOATBURDOCK_NOTHING):
+ * what it names, and the margin, limit less level. Refusals 15, 14, 4 in this order. */
+uint8_t moatburdock_verdict(uint8_t land_class, uint32_t yearly, bool sensitive, uint32_t lmax, uint8_t *finding, int32_t *margin);
+
+/* The class of a land code, a capital letter and a digit as ASCII. Refusal 15. */
+uint8_t moatburdock_land_class(uint8_t letter, uint8_t digit, uint8_t *land_class);
+
+#ifdef __cplusplus
+}
+#endif
+
+#endif
