@@ -1,4 +1,5 @@
--- Laws that the proofs of `day_bytes` cite: of numbers that are put behind other bytes, of what is read where numbers stand, and that the bytes of a day stand for it.
+-- Laws that the proofs of `day_bytes` cite, and its own: that the bytes of a day stand for it, and that every day that calls reach fits into them.
 pub mod Inverse
 pub mod Putting
+pub mod Reached
 pub mod Reading

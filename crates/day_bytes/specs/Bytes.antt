@@ -8,7 +8,8 @@ use lib.Dec.{eqb}
 use lib.ListN.{length}
 use Rattle.quantity.specs.declared.HighestLevel.{HighestLevel}
 use Rattle.quantity.specs.declared.HighestLevel.the-variants as highests
-use Rattle.ledger.specs.Day.{timeAt}
+use Rattle.ledger.specs.Day.{timeAt, opened}
+use Rattle.ledger.specs.Offer.{Offering, offered}
 use Rattle.ledger.specs.declared.Period.{Period}
 use Rattle.ledger.specs.declared.Day.{Day}
 use Rattle.day_file.specs.Bytes.{oneByte, twoBytes, fourBytes, numbersAt}
@@ -80,3 +81,10 @@ pub record DayFits (d : Day) : Type 0 where
 -- the bytes of a day stand for that very day
 abbrev pub InverseLaw : Type 0
 InverseLaw = (d : Day) → DayFits d → dayFrom (dayBytes d) ≡ d
+
+-- the fresh day, the day of no class, and the day after an offer all fit, so the inverse law holds of every day that calls reach
+abbrev pub OpenedLaw : Type 0
+OpenedLaw = (daytime night : List ℕ) → DayFits (opened daytime night .day)
+
+abbrev pub OfferedLaw : Type 0
+OfferedLaw = (d : Day) (o : Offering) → DayFits d → DayFits (offered d o .day)

@@ -61,8 +61,8 @@ loop-again c =
     let end = k .ready .result .end in
     let size = k .ready .ensures .1 .0 .1 in
     let e =
-        next-inside (k .before .before .before .loop .now) (take end (k .ready .last .0)) (k .ready .result .at) (t .result) (t .ensures)
-        (c .before .before .before .answer .given .1) in
+    next-inside (k .before .before .before .loop .now) (take end (k .ready .last .0)) (k .ready .result .at) (t .result) (t .ensures)
+    (c .before .before .before .answer .given .1) in
     (omega (arith, e, length-take-le end (k .ready .last .0) size), size, k .ready .ensures .1 .1 ∙ k .before .before .before .loop .inv .2)
 
 refill-requires : tie.Need-refill-requires Inv-loop μ-loop
