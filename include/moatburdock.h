@@ -1,7 +1,7 @@
 /* Moatburdock: the ledger of an airport noise terminal, proved.
  *
  * Link with target/staticlib/libterminal.a, which `rt staticlib terminal` writes. The library keeps nothing between calls, allocates nothing and calls
- * nothing: all that it reads and writes is what it is lent here. It takes about 100 kB of stack.
+ * nothing but memcpy: all that it reads and writes is what it is lent here. It takes less than 32 kB of stack.
  *
  * Levels are hundredths of a decibel, times tenths of a second after local midnight, wind tenths of m/s.
  *
