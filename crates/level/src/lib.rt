@@ -20,11 +20,12 @@ fn mantissa_place(digits: u64) -> u32
     requires { ⌜ (G ≤ digits) × (digits < 10 * G) ⌝ }
     ensures { λ r. ⌜ Found digits r ⌝ }
 {
+    let table = power::mantissas();
     let mut low: u32 = 0;
     let mut high: u32 = 1000;
     while low + 1 < high {
         let middle = (low + high) / 2;
-        if power::mantissa(middle as usize) <= digits {
+        if power::mantissa_in(&table, middle as usize) <= digits {
             low = middle;
         } else {
             high = middle;

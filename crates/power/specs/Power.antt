@@ -1,6 +1,8 @@
 -- Document 01, 'Powers': 10 ^ (c / 1000) at a level c, exact to K decimal places and by its first ten digits.
 use mathlib.Core.Path.{_≡_}
+use mathlib.Core.List.{List}
 use Prim.Native.Nat.{ℕ, _+_, _*_, _/_, _%_, _^_, _≤_, _<_}
+use lib.ListN.{getD}
 use Rattle.power.specs.Root.{root}
 
 -- X(K, c): the whole number p with p ^ 1000 ≤ 10 ^ (1000 K + c) < (p + 1) ^ 1000
@@ -10,6 +12,10 @@ X K c = root 1000 (10 ^ (1000 * K + c))
 -- m(f): the same to nine places, for f from 0 to 999
 abbrev pub m : ℕ → ℕ
 m f = X 9 f
+
+-- a table of the mantissas: m(f) stands at place f
+pub record IsTable (table : List ℕ) : Type 0 where
+  pub entry : (f : ℕ) → f < 1000 → getD table f 0 ≡ m f
 
 -- e(c): m of the rest of c / 1000, times ten to the quotient
 unfoldable pub e : ℕ → ℕ

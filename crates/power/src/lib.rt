@@ -1,7 +1,7 @@
 // Powers of ten at levels: e(c), which is 10^(c / 1000) to ten digits, as a mantissa times a power of ten.
 ghost use mathlib.Core.Path.{_≡_};
 ghost use Prim.Native.Nat.{_*_, _≤_, _<_};
-ghost use Rattle.power.specs.Power.{m, G, PowerOf};
+ghost use Rattle.power.specs.Power.{m, G, IsTable, PowerOf};
 use quantity::Level;
 
 // m(f) for f from 0 to 999: the first ten digits of 10^(f / 1000).
@@ -1014,12 +1014,20 @@ pub struct Power {
     pub exponent: u32,
 }
 
-pub fn mantissa(f: usize) -> u64
-    requires { ⌜ f < 1000 ⌝ }
+// The table, to be made once and lent to each lookup.
+pub fn mantissas() -> [u64; 1000]
+    ensures { λ r. ⌜ IsTable r ⌝ }
+{
+    MANTISSAS
+}
+
+// m(f), looked up in the table.
+pub fn mantissa_in(table: &[u64; 1000], f: usize) -> u64
+    requires { ⌜ (f < 1000) × IsTable (now table) ⌝ }
     ensures entry { λ r. ⌜ r ≡ m f ⌝ }
     ensures ten_digits { λ r. ⌜ (G ≤ r) × (r < 10 * G) ⌝ }
 {
-    MANTISSAS[f]
+    table[f]
 }
 
 // e(c) of any level.
@@ -1027,8 +1035,9 @@ pub fn power_of(level: Level) -> Power
     ensures { λ r. ⌜ PowerOf (level .0) (r .mantissa) (r .exponent) ⌝ }
 {
     let c = level.0;
+    let table = mantissas();
     Power {
-        mantissa: mantissa((c % 1000) as usize),
+        mantissa: mantissa_in(&table, (c % 1000) as usize),
         exponent: c / 1000,
     }
 }

@@ -1,19 +1,21 @@
 -- `level::mantissa_place` meets its contract: the range that holds the place halves with each turn. Assumes nothing.
 use Prim.Native.Nat.{_-_}
-use native.Mathlib.Omega.{arith}
 use borrow.Author.Needs.{needs}
 use Rattle.level.proofs.Digits.{Between, between-starts, between-ends}
 use Rattle.level.proofs.mantissa_place.Statement.{statement}
 use Rattle.level.proofs.mantissa_place.Tie as tie
 
 abbrev Inv-loop : tie.InvT-loop
-Inv-loop digits low₀ high₀ low high = Between digits low high
+Inv-loop digits table low₀ high₀ low high = Between digits low high
 
 abbrev μ-loop : tie.MeasureT-loop
-μ-loop digits low₀ high₀ low high = high - low
+μ-loop digits table low₀ high₀ low high = high - low
+
+mantissas-requires : tie.Need-mantissas-requires Inv-loop μ-loop
+mantissas-requires c κs = search needs
 
 loop-holds : tie.Need-loop-holds Inv-loop μ-loop
-loop-holds c = between-starts (c .pre)
+loop-holds c = between-starts (c .before .pre)
 
 add-loop : tie.Need-add-loop Inv-loop μ-loop
 add-loop c = search needs
@@ -21,27 +23,27 @@ add-loop c = search needs
 add-middle : tie.Need-add-middle Inv-loop μ-loop
 add-middle c = search needs
 
-cast-mantissa : tie.Need-cast-mantissa Inv-loop μ-loop
-cast-mantissa c = search needs
+cast-mantissa-in : tie.Need-cast-mantissa-in Inv-loop μ-loop
+cast-mantissa-in c = search needs
 
-mantissa-requires : tie.Need-mantissa-requires Inv-loop μ-loop
-mantissa-requires c κs = search needs
+mantissa-in-requires : tie.Need-mantissa-in-requires Inv-loop μ-loop
+mantissa-in-requires c κs = search needs
 
 loop-less : tie.Need-loop-less Inv-loop μ-loop
 loop-less c = search needs
 
 loop-again : tie.Need-loop-again Inv-loop μ-loop
 loop-again c =
-    let p = c .before .before .before .loop .inv in
-    record { order = search needs; end = p .end; reached = rw (← c .before .mantissa .ensures .0) (c .if1 .taken); missed = p .missed }
+    let p = c .before .before .before .before .loop .inv in
+    record { order = search needs; end = p .end; reached = rw (← c .before .mantissa-in .ensures .0) (c .if1 .taken); missed = p .missed }
 
 loop-less-2 : tie.Need-loop-less-2 Inv-loop μ-loop
 loop-less-2 c = search needs
 
 loop-again-2 : tie.Need-loop-again-2 Inv-loop μ-loop
 loop-again-2 c =
-    let p = c .before .before .before .loop .inv in
-    record { order = search needs; end = search needs; reached = p .reached; missed = rw (← c .before .mantissa .ensures .0) (c .if1 .left) }
+    let p = c .before .before .before .before .loop .inv in
+    record { order = search needs; end = search needs; reached = p .reached; missed = rw (← c .before .mantissa-in .ensures .0) (c .if1 .left) }
 
 returns : tie.Need-returns Inv-loop μ-loop
 returns c = between-ends (c .before .loop .inv) (search needs)
@@ -52,11 +54,12 @@ mantissa-place-spec =
     (tie.spec
     Inv-loop
     μ-loop
+    mantissas-requires
     loop-holds
     add-loop
     add-middle
-    cast-mantissa
-    mantissa-requires
+    cast-mantissa-in
+    mantissa-in-requires
     loop-less
     loop-again
     loop-less-2

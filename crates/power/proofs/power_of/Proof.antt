@@ -5,17 +5,21 @@ use Rattle.power.specs.Power.{e}
 use Rattle.power.proofs.power_of.Statement.{statement}
 use Rattle.power.proofs.power_of.Tie as tie
 
-cast-mantissa : tie.Need-cast-mantissa
-cast-mantissa c = search needs
+mantissas-requires : tie.Need-mantissas-requires
+mantissas-requires c κs = search needs
 
-mantissa-requires : tie.Need-mantissa-requires
-mantissa-requires c κs = search needs
+cast-mantissa-in : tie.Need-cast-mantissa-in
+cast-mantissa-in c = search needs
+
+mantissa-in-requires : tie.Need-mantissa-in-requires
+mantissa-in-requires c κs = search needs
 
 returns : tie.Need-returns
 unfolding e
 returns c =
-    let p = c .mantissa .ensures in
+    let p = c .mantissa-in .ensures in
     record { digits = p .0; tens = refl; whole = rw (p .0); low = search needs; high = search needs }
 
 pub power-of-spec : {M : Type 1} → statement M
-power-of-spec = tie.close (tie.spec cast-mantissa mantissa-requires returns)
+power-of-spec =
+    tie.close (tie.spec mantissas-requires cast-mantissa-in mantissa-in-requires returns)

@@ -1,25 +1,22 @@
--- `power::mantissa` meets its contract. The table is read off the function's own code, so it stands in the source alone. Its rule is a test that
+-- `power::mantissas` meets its contract. The table is read off the function's own code, so it stands in the source alone. Its rule is a test that
 -- is computed at each of the thousand entries, in eight runs, since a declaration may take 50,000,000 steps. Assumes nothing.
 use mathlib.Core.Path.{_≡_}
 use mathlib.Core.Bool.{Bool, _&&_}
-use mathlib.Core.List.{List, []}
-use Prim.Native.Nat.{ℕ, _+_, _*_, _^_, _≤_, _<_}
+use mathlib.Core.List.{List}
+use Prim.Native.Nat.{ℕ, _+_, _^_, _<_}
 use native.Mathlib.Omega.{arith}
 use lib.Dec.{leb, ltb, leb→le, ltb→lt, lit<, lit≤}
 use lib.ListN.{getD}
-use borrow.Author.Needs.{needs}
-use Rattle.power.specs.Power.{X, m, G}
+use Rattle.power.specs.Power.{X, m}
 use Rattle.power.proofs.Search.{root-only}
-use Rattle.power.proofs.Cut.{m-low, m-high}
 use Rattle.power.proofs.Table.{both, PassTo, extend}
-use Rattle.power.proofs.mantissa.Statement.{statement}
-use Rattle.power.proofs.mantissa.Tie as tie
-use Rattle.power.proofs.mantissa.Reads as reads
-use Rattle.power.proofs.mantissa.Lts as lts
+use Rattle.power.proofs.mantissas.Statement.{statement}
+use Rattle.power.proofs.mantissas.Tie as tie
+use Rattle.power.proofs.mantissas.Lts as lts
 
--- the table, as the function holds it once it is made
+-- the table, as the function returns it
 unfoldable table : List ℕ
-table = lts.m1 reads.Pre reads.Post (record { f = 0 }) [] .1 .1 .0
+table = lts.answer tt tt
 
 -- x ^ 1000 ≤ 10 ^ (9000 + f) < (x + 1) ^ 1000
 unfoldable right : ℕ → ℕ → Bool
@@ -66,18 +63,9 @@ entry f h =
     let t = both (leb (x ^ 1000) p) (ltb p ((x + 1) ^ 1000)) (to1000 f h) in
     root-only 1000 p x (lit< tt) (leb→le (x ^ 1000) p (t .0)) (ltb→lt p ((x + 1) ^ 1000) (t .1))
 
-mul-result : tie.Need-mul-result
-mul-result c = search needs
-
-array-read-result : tie.Need-array-read-result
-array-read-result c = search needs
-
 returns : tie.Need-returns
 unfolding table
-returns c =
-    let f = c .args .f in
-    let r : getD table f 0 ≡ m f = entry f (search needs) in
-    (r, rw r (m-low f, m-high f (search needs)))
+returns c = record { entry = entry }
 
-pub mantissa-spec : {M : Type 1} → statement M
-mantissa-spec = tie.close (tie.spec mul-result array-read-result returns)
+pub mantissas-spec : {M : Type 1} → statement M
+mantissas-spec = tie.close (tie.spec returns)
