@@ -76,8 +76,8 @@ pub record Between (digits low high : ℕ) : Type 0 where
   pub reached : m low ≤ digits
   pub missed : digits < m high
 
-pub between-starts : {digits : ℕ} → (G ≤ digits) × (digits < 10 * G) → Between digits 0 1000
-between-starts h = record { order = lit< tt; end = lit≤ tt; reached = rw m-zero (h .0); missed = rw m-thousand (h .1) }
+pub between-starts : {digits : ℕ} → G ≤ digits → digits < 10 * G → Between digits 0 1000
+between-starts l h = record { order = lit< tt; end = lit≤ tt; reached = rw m-zero l; missed = rw m-thousand h }
 
 pub between-ends : {digits low high : ℕ} → Between digits low high → high ≤ low + 1 → Found digits low
 between-ends {digits} {low} {high} p h =

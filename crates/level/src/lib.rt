@@ -2,7 +2,7 @@
 ghost use mathlib.Core.Path.{_≡_};
 ghost use Prim.Native.Nat.{ℕ, _+_, _*_, _/_, _^_, _≤_, _<_};
 ghost use Rattle.quantity.specs.Answers.{reading};
-ghost use Rattle.power.specs.Power.{G};
+ghost use Rattle.power.specs.Power.{G, IsTable};
 ghost use Rattle.limbs.specs.Value.{value};
 ghost use Rattle.level.specs.Level.{levelOf};
 ghost use Rattle.level.specs.Leading.{Leads, Found, lowered};
@@ -16,16 +16,15 @@ pub struct Leading {
 }
 
 // The place of the largest mantissa that is at most the digits. The range from low to high halves with each turn.
-fn mantissa_place(digits: u64) -> u32
-    requires { ⌜ (G ≤ digits) × (digits < 10 * G) ⌝ }
+fn mantissa_place(table: &[u64; 1000], digits: u64) -> u32
+    requires { ⌜ IsTable (now table) × (G ≤ digits) × (digits < 10 * G) ⌝ }
     ensures { λ r. ⌜ Found digits r ⌝ }
 {
-    let table = power::mantissas();
     let mut low: u32 = 0;
     let mut high: u32 = 1000;
     while low + 1 < high {
         let middle = (low + high) / 2;
-        if power::mantissa_in(&table, middle as usize) <= digits {
+        if power::mantissa_in(table, middle as usize) <= digits {
             low = middle;
         } else {
             high = middle;
@@ -50,8 +49,8 @@ fn ten_digits(number: Leading) -> Leading
 }
 
 // The level of a number of which the leading digits are given.
-fn level_of_leading(number: Leading) -> LevelAnswer
-    requires { ⌜ number .tens ≤ 100 ⌝ }
+fn level_of_leading(table: &[u64; 1000], number: Leading) -> LevelAnswer
+    requires { ⌜ IsTable (now table) × (number .tens ≤ 100) ⌝ }
     ensures { λ r. ⌜ ((n : ℕ) → Leads n (number .digits) (number .tens) → reading r ≡ levelOf 0 1 n) ⌝ }
 {
     let short = ten_digits(number);
@@ -60,15 +59,15 @@ fn level_of_leading(number: Leading) -> LevelAnswer
     if digits < 1000000000 {
         return LevelAnswer::BelowScale;
     }
-    LevelAnswer::At(Level(1000 * tens + mantissa_place(digits)))
+    LevelAnswer::At(Level(1000 * tens + mantissa_place(table, digits)))
 }
 
 // The level of digits * 10^tens; a number that has tens has ten digits before them.
-pub fn level_of_product(digits: u64, tens: u32) -> LevelAnswer
-    requires { ⌜ (tens ≤ 100) × (0 < tens → G ≤ digits) ⌝ }
+pub fn level_of_product(table: &[u64; 1000], digits: u64, tens: u32) -> LevelAnswer
+    requires { ⌜ IsTable (now table) × (tens ≤ 100) × (0 < tens → G ≤ digits) ⌝ }
     ensures { λ r. ⌜ reading r ≡ levelOf 0 1 (digits * 10 ^ tens) ⌝ }
 {
-    level_of_leading(Leading { digits, tens })
+    level_of_leading(table, Leading { digits, tens })
 }
 
 // A level less an offset, or below scale.
@@ -108,7 +107,8 @@ pub fn level_over(sum: [u32; 6], divisor: u32, offset: u32) -> LevelAnswer
     requires { ⌜ 0 < divisor ⌝ }
     ensures { λ r. ⌜ reading r ≡ levelOf offset divisor (value sum) ⌝ }
 {
+    let table = power::mantissas();
     let quotient = leading_quotient(sum, divisor);
-    let answer = level_of_leading(quotient);
+    let answer = level_of_leading(&table, quotient);
     lowered_by(answer, offset)
 }

@@ -10,14 +10,14 @@ ten-digits-requires c κs = search needs
 returns : tie.Need-returns
 returns c = λ n l. digits-below (c .if1 .taken) (c .before .ten-digits .ensures .0 n l)
 
-mul-t6 : tie.Need-mul-t6
-mul-t6 c = search needs
+mul-t7 : tie.Need-mul-t7
+mul-t7 c = search needs
 
 mantissa-place-requires : tie.Need-mantissa-place-requires
 mantissa-place-requires c κs = search needs
 
-add-t8 : tie.Need-add-t8
-add-t8 c = search needs
+add-t9 : tie.Need-add-t9
+add-t9 c = search needs
 
 returns-2 : tie.Need-returns-2
 returns-2 c = λ n l. digits-level (c .mantissa-place .ensures) (c .before .before .ten-digits .ensures .0 n l)
@@ -25,4 +25,4 @@ returns-2 c = λ n l. digits-level (c .mantissa-place .ensures) (c .before .befo
 pub level-of-leading-spec : {M : Type 1} → statement M
 level-of-leading-spec =
     tie.close
-    (tie.spec ten-digits-requires returns mul-t6 mantissa-place-requires add-t8 returns-2)
+    (tie.spec ten-digits-requires returns mul-t7 mantissa-place-requires add-t9 returns-2)

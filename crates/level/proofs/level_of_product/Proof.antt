@@ -8,7 +8,7 @@ level-of-leading-requires : tie.Need-level-of-leading-requires
 level-of-leading-requires c κs = search needs
 
 returns : tie.Need-returns
-returns c = c .level-of-leading .ensures _ (leads-product _ _ (c .before .pre .1))
+returns c = c .level-of-leading .ensures _ (leads-product _ _ (c .before .pre .2))
 
 pub level-of-product-spec : {M : Type 1} → statement M
 level-of-product-spec = tie.close (tie.spec level-of-leading-requires returns)

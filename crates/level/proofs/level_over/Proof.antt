@@ -6,6 +6,9 @@ use borrow.Author.Needs.{needs}
 use Rattle.level.proofs.level_over.Statement.{statement}
 use Rattle.level.proofs.level_over.Tie as tie
 
+mantissas-requires : tie.Need-mantissas-requires
+mantissas-requires c κs = search needs
+
 leading-quotient-requires : tie.Need-leading-quotient-requires
 leading-quotient-requires c κs = search needs
 
@@ -17,11 +20,11 @@ lowered-by-requires c κs = search needs
 
 returns : tie.Need-returns
 returns c =
-    let some = c .before .before .before .pre in
-    let level = c .before .level-of-leading .ensures _ (c .before .before .leading-quotient .ensures .0) in
+    let some = c .before .before .before .before .before .pre in
+    let level = c .before .level-of-leading .ensures _ (c .before .before .before .leading-quotient .ensures .0) in
     c .lowered-by .ensures ∙ ap (lowered _) (level ∙ divided _ _ some) ∙ offset-taken _ _ _ some
 
 pub level-over-spec : {M : Type 1} → statement M
 level-over-spec =
     tie.close
-    (tie.spec leading-quotient-requires level-of-leading-requires lowered-by-requires returns)
+    (tie.spec mantissas-requires leading-quotient-requires level-of-leading-requires lowered-by-requires returns)

@@ -6,16 +6,13 @@ use Rattle.level.proofs.mantissa_place.Statement.{statement}
 use Rattle.level.proofs.mantissa_place.Tie as tie
 
 abbrev Inv-loop : tie.InvT-loop
-Inv-loop digits table low₀ high₀ low high = Between digits low high
+Inv-loop table digits low₀ high₀ low high = Between digits low high
 
 abbrev μ-loop : tie.MeasureT-loop
-μ-loop digits table low₀ high₀ low high = high - low
-
-mantissas-requires : tie.Need-mantissas-requires Inv-loop μ-loop
-mantissas-requires c κs = search needs
+μ-loop table digits low₀ high₀ low high = high - low
 
 loop-holds : tie.Need-loop-holds Inv-loop μ-loop
-loop-holds c = between-starts (c .before .pre)
+loop-holds c = between-starts (c .pre .1) (c .pre .2)
 
 add-loop : tie.Need-add-loop Inv-loop μ-loop
 add-loop c = search needs
@@ -34,7 +31,7 @@ loop-less c = search needs
 
 loop-again : tie.Need-loop-again Inv-loop μ-loop
 loop-again c =
-    let p = c .before .before .before .before .loop .inv in
+    let p = c .before .before .before .loop .inv in
     record { order = search needs; end = p .end; reached = rw (← c .before .mantissa-in .ensures .0) (c .if1 .taken); missed = p .missed }
 
 loop-less-2 : tie.Need-loop-less-2 Inv-loop μ-loop
@@ -42,7 +39,7 @@ loop-less-2 c = search needs
 
 loop-again-2 : tie.Need-loop-again-2 Inv-loop μ-loop
 loop-again-2 c =
-    let p = c .before .before .before .before .loop .inv in
+    let p = c .before .before .before .loop .inv in
     record { order = search needs; end = search needs; reached = p .reached; missed = rw (← c .before .mantissa-in .ensures .0) (c .if1 .left) }
 
 returns : tie.Need-returns Inv-loop μ-loop
@@ -54,7 +51,6 @@ mantissa-place-spec =
     (tie.spec
     Inv-loop
     μ-loop
-    mantissas-requires
     loop-holds
     add-loop
     add-middle
