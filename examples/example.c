@@ -13,19 +13,19 @@ int main(void) {
     const uint16_t daytime[] = {1}, night[] = {1};
     const uint16_t samples[] = {6000, 8000, 8000, 8000, 6000};
     const uint32_t starts[] = {432000, 800000};
-    uint8_t day[MOATBURDOCK_DAY_BYTES];
+    uint8_t day[MOATBURDOCK_DAY_BYTES] = {0};
 
     if (failed("opening", moatburdock_open_day(day, daytime, 1, night, 1)))
         return 1;
     for (int i = 0; i < 2; i++) {
-        uint32_t exposure, lmax;
+        uint32_t exposure = 0, lmax = 0;
         if (failed("the offer", moatburdock_offer(day, starts[i], 0, 30, false, 6000, samples, 5, &exposure, &lmax)))
             return 1;
         printf("fly-over %d: LAE %u.%02u dB, Lmax %u.%02u dB\n", i + 1, exposure / 100, exposure % 100, lmax / 100, lmax % 100);
     }
 
-    uint64_t record;
-    uint32_t counts[3];
+    uint64_t record = 0;
+    uint32_t counts[3] = {0};
     if (failed("closing", moatburdock_close_day(day, 9400, 9400, &record, counts)))
         return 1;
     uint32_t ldn = MOATBURDOCK_LEVEL_OF(record);
@@ -36,16 +36,17 @@ int main(void) {
         year[i] = record;
     if (failed("rewriting", moatburdock_rewrite_record(year, 365, 364, MOATBURDOCK_RECORD(6000, 1))))
         return 1;
-    uint32_t mean;
+    uint32_t mean = 0;
     if (failed("the year", moatburdock_year_mean(year, 365, &mean)))
         return 1;
 
-    uint8_t land_class, finding;
-    int32_t margin;
+    uint8_t land_class = 0, finding = 0;
+    int32_t margin = 0;
     if (failed("the code", moatburdock_land_class('R', '1', &land_class))
         || failed("the verdict", moatburdock_verdict(land_class, mean, true, counts[2], &finding, &margin)))
         return 1;
     printf("the year: YLdn %u.%02u dB; class %u, finding %u, margin %d hundredths\n", mean / 100, mean % 100, land_class, finding, margin);
-    printf("a second fly-over at noon: refusal %u\n", moatburdock_offer(day, 432000, 0, 30, false, 6000, samples, 5, &mean, &mean));
+    uint32_t exposure = 0, lmax = 0;
+    printf("a second fly-over at noon: refusal %u\n", moatburdock_offer(day, 432000, 0, 30, false, 6000, samples, 5, &exposure, &lmax));
     return 0;
 }

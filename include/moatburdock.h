@@ -6,8 +6,8 @@
  * Levels are hundredths of a decibel, times tenths of a second after local midnight, wind tenths of m/s.
  *
  * Every function answers 0, or the number of the refusal. A refused call leaves all that it was lent as it was; only a refused opening writes the
- * day, as one of no class, on which every offer is refused. Nothing else is required of the arguments than what C requires: pointers to as many
- * elements as are stated, that do not overlap where they are written through. Any bytes make a day.
+ * day, as one of no class, on which every offer is refused. Of the arguments only this is required: pointers to as many elements as are stated, all
+ * of them initialised, and none that is written through overlaps another argument of the call. Any bytes make a day.
  *
  * What each function computes is an equation that is proved for every argument: crates/terminal/specs/Calls.antt, over the definitions of
  * crates/ledger, closing, mean and land. */

@@ -21,7 +21,7 @@ fn move_to_front(held: &mut [u8], from: usize, to: usize) -> usize
 }
 
 // Moves the bytes from a place up to another to the beginning, fills what is free behind them from standard input, and gives the number of
-// bytes that are held then. It is below the buffer's length only where the input has ended.
+// bytes that are held then. It is below the buffer's length only where the input has ended or a read has failed, which counts as its end.
 pub fn refill(held: &mut [u8], from: usize, to: usize) -> usize
     requires { ⌜ (from ≤ to) × (to ≤ length (now held)) ⌝ }
     ensures { λ r. ⌜ take (to - from) (now (held .exit)) ≡ take (to - from) (drop from (now (held .entry))) ⌝ }
