@@ -11,7 +11,7 @@ use lib.Seq.{slice, getD-set-same, getD-set-other}
 use Rattle.power.specs.Power.{e}
 use Rattle.power.proofs.Scale.{e-mono}
 use Rattle.event.specs.Window.{highest}
-use Rattle.event.specs.Event.{energies}
+use Rattle.decades.specs.Decades.{energies}
 use Rattle.ledger.specs.Book.{sumOf, padded}
 use Rattle.quantity.proofs.Tests.{test}
 

@@ -15,7 +15,8 @@ use Rattle.power.specs.Power.{e}
 use Rattle.limbs.proofs.Digits.{limbsOf-add}
 use Rattle.event.specs.Window.{highest}
 use Rattle.event.specs.Stretch.{stretchFirst, stretchEnd, stretchOf}
-use Rattle.event.specs.Event.{energies, measuredOf}
+use Rattle.decades.specs.Decades.{energies}
+use Rattle.event.specs.Event.{locatedOf, energyOf}
 use Rattle.event.proofs.Exposure.{exposure-accurate}
 use Rattle.event.proofs.Whole.{within, peak-inside}
 use Rattle.ledger.specs.Book.{mostClasses}
@@ -116,7 +117,7 @@ module _ {t : Tally} (b : Bounded t) (o : Offering) (free : firstOf (tallyChecks
   in-book : o .conditions .class < length (t .book true)
   in-book = leb-false _ _ (admission .booked)
 
-  joined-same : entered (dayFrom t) (o .conditions) (measuredOf (o .samples)) ≡ dayFrom (joined t o)
+  joined-same : entered (dayFrom t) (o .conditions) (locatedOf (o .samples)) (energyOf (o .samples)) ≡ dayFrom (joined t o)
   joined-same =
       let c = o .conditions in
       let s = o .samples in
@@ -148,7 +149,7 @@ module _ {t : Tally} (b : Bounded t) (o : Offering) (free : firstOf (tallyChecks
 
 -- what comes of an offer, by the number that the tally's rules give
 abbrev outcome : Tally → Offering → ℕ → OfferReading
-outcome t o n = ifAdmitted n (dayFrom t) (admitted (dayFrom t) (o .conditions) (measuredOf (o .samples)))
+outcome t o n = ifAdmitted n (dayFrom t) (admitted (dayFrom t) o)
 
 module _ {t : Tally} (b : Bounded t) (o : Offering) where
   offered-same : offered (dayFrom t) o ≡ outcome t o (firstOf (tallyChecks t o))

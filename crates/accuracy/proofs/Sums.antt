@@ -11,7 +11,7 @@ use Rattle.power.proofs.Scale.{e-at, m-zero}
 use Rattle.limbs.specs.Value.{base}
 use Rattle.level.specs.Accuracy.{Sample, weighted, weigh}
 use Rattle.event.specs.Clock.{dayTicks}
-use Rattle.event.specs.Event.{energies}
+use Rattle.decades.specs.Decades.{energies}
 use Rattle.event.proofs.Exposure.{weighted-energies}
 use Rattle.ledger.specs.Offer.{highestSample}
 use Rattle.accuracy.specs.Tally.{Held, sameAs, heldSamples}

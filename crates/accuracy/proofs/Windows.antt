@@ -16,7 +16,7 @@ use Rattle.power.specs.Power.{e}
 use Rattle.event.specs.Clock.{dayTicks, shortestWindow, longestWindow}
 use Rattle.event.specs.Window.{highest, peakOf, anyAbove}
 use Rattle.event.specs.Stretch.{stretchFirst, stretchEnd, stretchOf}
-use Rattle.event.specs.Event.{energies}
+use Rattle.decades.specs.Decades.{energies}
 use Rattle.event.proofs.Runs.{peaks, highest-above}
 use Rattle.event.proofs.Whole.{any-above, within, peak-inside}
 use Rattle.ledger.specs.Offer.{Offering, offerChecks, highestSample}

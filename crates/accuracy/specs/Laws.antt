@@ -9,7 +9,7 @@ use lib.ListN.{getD}
 use Rattle.quantity.specs.Rules.{firstOf}
 use Rattle.limbs.specs.Value.{value}
 use Rattle.event.specs.Window.{highest}
-use Rattle.event.specs.Event.{energies}
+use Rattle.decades.specs.Decades.{energies}
 use Rattle.ledger.specs.Book.{bookRules}
 use Rattle.ledger.specs.Day.{freshDay, periodOf}
 use Rattle.ledger.specs.declared.Day.{Day}

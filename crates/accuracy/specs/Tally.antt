@@ -6,7 +6,7 @@ use lib.Dec.{leb, eqb}
 use lib.ListN.{length, getD, set, replicate}
 use Rattle.quantity.specs.Rules.{Rule, firstOf}
 use Rattle.level.specs.Accuracy.{Sample, weigh}
-use Rattle.event.specs.Event.{measuredOf}
+use Rattle.event.specs.Event.{locatedOf}
 use Rattle.event.specs.Stretch.{stretchOf, stretchFirst, stretchEnd}
 use Rattle.ledger.specs.Book.{sumOf}
 use Rattle.ledger.specs.Offer.{Offering, offerChecks, inDaytime}
@@ -48,7 +48,7 @@ started daytime night =
 
 -- the period of an offer, by its peak
 abbrev pub periodIn : Offering → Bool
-periodIn o = inDaytime (o .conditions) (measuredOf (o .samples))
+periodIn o = inDaytime (o .conditions) (locatedOf (o .samples))
 
 -- the refusals of an offer in their order, 8 against the end and 9 against the counts
 abbrev pub tallyChecks : Tally → Offering → List Rule

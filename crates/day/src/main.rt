@@ -1,119 +1,87 @@
-// The day program: reads a day file from standard input, and writes a line for each event and a last one for the day or the fault. It holds a part of
-// the file at a time: always a whole event record, or all that is left of the file.
+// The day program: reads a day file from standard input, and writes a line for each event and a last one for the day or the fault.
+//
+// What is assumed: `io::read_full` hands over the bytes of standard input in their order, none left out and none twice, and gives fewer than there is
+// room for only where the input has ended; `io::write_all` writes what it is handed, behind what was written before. Then each turn of the loop
+// below is a step of a run over the input, as `steps` has it: what is held from `from` up to `to` is what the bytes that are not used up begin
+// with, and each line is written once, in its turn.
 ghost use mathlib.Core.Path.{_≡_};
-ghost use Prim.Native.Nat.{_+_, _-_, _≤_};
-ghost use lib.ListN.{length, take, drop};
-use closing::CloseAnswer;
-use day_file::StartAnswer;
-use day_file::TakenAnswer;
-use ledger::Day;
-use ledger::OfferAnswer;
+ghost use Prim.Native.Nat.{_≤_};
+ghost use lib.ListN.{length};
+ghost use Rattle.steps.specs.Machine.{stateOf, isDone, longestNeed};
+ghost use Rattle.day.specs.Turn.{Turned};
 use libc::STDOUT_FILENO;
-use quantity::Level;
-use quantity::Refusal;
+use steps::Came;
+use steps::Reader;
 
-// The bytes of the longest event record.
-const LONGEST_RECORD: usize = 12012;
-
-fn write_event(i: u32, answer: OfferAnswer) {
-    let mut line = [0u8; 64];
-    let count = report::event_line(&mut line, i, answer);
-    io::write_all(STDOUT_FILENO, &line[..count]);
-}
-
-fn write_day(answer: CloseAnswer) {
-    let mut line = [0u8; 64];
-    let count = report::day_line(&mut line, answer);
-    io::write_all(STDOUT_FILENO, &line[..count]);
-}
-
-fn write_fault(refusal: Refusal) {
-    let mut line = [0u8; 64];
-    let count = report::fault_line(&mut line, refusal);
-    io::write_all(STDOUT_FILENO, &line[..count]);
-}
-
-// Where the bytes that are not read yet begin and end, in what is held of the file.
-struct Rest {
+// What a turn comes to: the reader, where the bytes begin that the step saw, where those begin and end that are not used up, and what came.
+struct Turn {
+    reader: Reader,
+    from: usize,
     at: usize,
     end: usize,
+    came: Came,
 }
 
-// Sees that a whole event record is held, or all that is left of the file. The bytes that are not read yet stay, in their order.
-fn ready(held: &mut [u8], at: usize, end: usize) -> Rest
-    requires { ⌜ (at ≤ end) × (end ≤ length (now held)) ⌝ }
-    ensures { λ r. ⌜ take (end - at) (drop (r .at) (now (held .exit))) ≡ take (end - at) (drop at (now (held .entry))) ⌝ }
-    ensures size { λ r. ⌜ (r .at + (end - at) ≤ r .end) × (r .end ≤ length (now (held .exit))) ⌝ }
-    ensures whole { λ _. ⌜ length (now (held .exit)) ≡ length (now (held .entry)) ⌝ }
+// Sees that enough is held, and makes a step on it.
+fn take_turn(held: &mut [u8], last: Turn) -> Turn
+    requires { ⌜ (last .at ≤ last .end) × (last .end ≤ length (now held)) × (longestNeed ≤ length (now held)) ⌝ }
+    ensures { λ r. ⌜ Turned (now (held .entry)) last (now (held .exit)) r ⌝ }
 {
-    if end - at < LONGEST_RECORD {
-        return Rest {
-            at: 0,
-            end: stream::refill(held, at, end),
-        };
-    }
-    Rest { at, end }
-}
-
-// Takes the events, and then closes the day where the file ends behind them.
-fn run_events(
-    held: &mut [u8],
-    filled: usize,
-    day: Day,
-    first: usize,
-    number: u16,
-    before: Level,
-    after: Level,
-)
-    requires { ⌜ (first ≤ filled) × (filled ≤ length (now held)) ⌝ }
-{
-    let mut now = day;
-    let mut at = first;
-    let mut end = filled;
-    let mut i: u32 = 0;
-    while i < number as u32 {
-        let rest = ready(held, at, end);
-        let filled_to = rest.end;
-        let taken = day_file::take_event(now, &held[..filled_to], rest.at);
-        let answer = taken.answer;
-        let TakenAnswer::Answered(event) = answer else {
-            write_fault(Refusal::FileFault);
-            return;
-        };
-        i += 1;
-        write_event(i, event);
-        let next = taken.day;
-        now = next;
-        at = taken.next;
-        end = filled_to;
-    }
-    if 0 < stream::refill(held, at, end) {
-        write_fault(Refusal::FileTooLong);
-    } else {
-        write_day(closing::close_day(now, before, after));
+    let reader = last.reader;
+    let at = last.at;
+    let end = last.end;
+    let rest = stream::ready(held, at, end, steps::longest_need());
+    let from = rest.at;
+    let to = rest.end;
+    let step = steps::step(reader, &held[from..to], rest.ended);
+    let next = step.reader;
+    let came = step.came;
+    Turn {
+        reader: next,
+        from,
+        at: from + step.used,
+        end: to,
+        came,
     }
 }
 
-// Reads what stands before the events.
-fn run(held: &mut [u8], filled: usize)
-    requires { ⌜ filled ≤ length (now held) ⌝ }
+// Whether the last line is written.
+fn is_over(turn: Turn) -> bool
+    ensures { λ r. ⌜ r ≡ isDone (stateOf (turn .reader)) ⌝ }
 {
-    let start = day_file::read_start(&held[..filled]);
-    let day = start.day;
-    let answer = start.answer;
-    match answer {
-        StartAnswer::Refused(refusal) => write_fault(refusal),
-        StartAnswer::Events {
-            before,
-            after,
-            number,
-            next,
-        } => run_events(held, filled, day, next, number, before, after),
+    let reader = turn.reader;
+    steps::is_done(reader)
+}
+
+// Writes the line of what came, if there is one.
+fn write_line(came: Came) {
+    let mut line = [0u8; 64];
+    let count = steps::put_line(&mut line, came);
+    io::write_all(STDOUT_FILENO, &line[..count]);
+}
+
+// Takes turns until the last line is written. At first nothing is held, at the end of the buffer.
+fn run(held: &mut [u8])
+    requires { ⌜ longestNeed ≤ length (now held) ⌝ }
+{
+    let size = held.len();
+    let reader = steps::fresh();
+    let mut turn = Turn {
+        reader,
+        from: size,
+        at: size,
+        end: size,
+        came: Came::Nothing,
+    };
+    while !is_over(turn) {
+        let next = take_turn(held, turn);
+        turn = next;
+        let came = next.came;
+        write_line(came);
     }
 }
 
 fn main() {
     let mut held = io::large_buffer();
-    let filled = stream::refill(&mut held, 0, 0);
-    run(&mut held, filled);
+    run(&mut held);
 }

@@ -15,7 +15,7 @@ use Rattle.ledger.specs.Offer.{Conditions, dayChecks, inDaytime, withEvent, rai
 use Rattle.ledger.specs.declared.Day.{Day}
 use Rattle.ledger.specs.declared.Period.{Period}
 use Rattle.ledger.proofs.Answers.{book-fits}
-use Rattle.event.specs.Event.{Measured, measuredOf}
+use Rattle.event.specs.Event.{Located, locatedOf, energyOf}
 use Rattle.day_bytes.specs.Bytes.{PeriodFits, DayFits, OpenedLaw, OfferedLaw}
 
 length-padded : (k : ℕ) (xs : List ℕ) → length (padded k xs) ≡ k
@@ -50,16 +50,16 @@ with-period-fits : (d : Day) (b : Bool) (p : Period) (end : Time) (highest : Hig
 with-period-fits d true p end highest f g = record { classes = f .classes; daytime = g; night = f .night }
 with-period-fits d false p end highest f g = record { classes = f .classes; daytime = f .daytime; night = g }
 
-entered-fits : (d : Day) (c : Conditions) (v : Measured) → DayFits d → DayFits (entered d c v)
-entered-fits d c v f =
+entered-fits : (d : Day) (c : Conditions) (v : Located) (S : ℕ) → DayFits d → DayFits (entered d c v S)
+entered-fits d c v S f =
     let by-day = inDaytime c v in
-    with-period-fits d by-day (withEvent (periodOf d by-day) (c .class) (v .energy)) (timeAt (c .start + v .end))
+    with-period-fits d by-day (withEvent (periodOf d by-day) (c .class) S) (timeAt (c .start + v .end))
     (raised (d .highest) (record { 0 = v .lmax })) f
-    (with-event-fits (periodOf d by-day) (c .class) (v .energy) (period-fits d by-day f))
+    (with-event-fits (periodOf d by-day) (c .class) S (period-fits d by-day f))
 
 pub offered-fits : OfferedLaw
 offered-fits d o f = go (firstOf (dayChecks d o))
   where
-    go : (n : ℕ) → DayFits (ifAdmitted n d (admitted d (o .conditions) (measuredOf (o .samples))) .day)
-    go zero = entered-fits d (o .conditions) (measuredOf (o .samples)) f
+    go : (n : ℕ) → DayFits (ifAdmitted n d (admitted d o) .day)
+    go zero = entered-fits d (o .conditions) (locatedOf (o .samples)) (energyOf (o .samples)) f
     go (suc n) = f

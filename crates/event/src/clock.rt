@@ -7,6 +7,6 @@ pub const SHORTEST_WINDOW: usize = 3;
 
 pub const LONGEST_WINDOW: usize = 6000;
 
-pub const FIRST_DAYTIME_TICK: u32 = 216000;
+pub const FIRST_DAYTIME_TICK: u64 = 216000;
 
-pub const LAST_DAYTIME_TICK: u32 = 791999;
+pub const LAST_DAYTIME_TICK: u64 = 791999;

@@ -28,10 +28,6 @@ use Rattle.level.proofs.Answer.{answered}
 positive : (t : ℕ) → 0 < 10 ^ t
 positive t = one-le-pow t 10 (lit< tt)
 
--- a number by itself, and with tens behind it
-pub leads-product : (digits tens : ℕ) → (0 < tens → G ≤ digits) → Leads (digits * 10 ^ tens) digits tens
-leads-product digits tens h = record { cut = sym (mul-div-cancel digits (positive tens)); kept = h }
-
 -- one digit fewer
 pub leads-fewer : {n digits tens : ℕ} → 10 * G ≤ digits → Leads n digits tens → Leads n (digits / 10) (tens + 1)
 leads-fewer {n} {digits} {tens} h l =

@@ -1,6 +1,6 @@
 // The level of a sum over a divisor: the quotient is cut to its ten leading digits, and these are looked up among the mantissas.
 ghost use mathlib.Core.Path.{_≡_};
-ghost use Prim.Native.Nat.{ℕ, _+_, _*_, _/_, _^_, _≤_, _<_};
+ghost use Prim.Native.Nat.{ℕ, _+_, _*_, _/_, _≤_, _<_};
 ghost use Rattle.quantity.specs.Answers.{reading};
 ghost use Rattle.power.specs.Power.{G, IsTable};
 ghost use Rattle.limbs.specs.Value.{value};
@@ -49,7 +49,7 @@ fn ten_digits(number: Leading) -> Leading
 }
 
 // The level of a number of which the leading digits are given.
-fn level_of_leading(table: &[u64; 1000], number: Leading) -> LevelAnswer
+pub fn level_of_leading(table: &[u64; 1000], number: Leading) -> LevelAnswer
     requires { ⌜ IsTable (now table) × (number .tens ≤ 100) ⌝ }
     ensures { λ r. ⌜ ((n : ℕ) → Leads n (number .digits) (number .tens) → reading r ≡ levelOf 0 1 n) ⌝ }
 {
@@ -60,14 +60,6 @@ fn level_of_leading(table: &[u64; 1000], number: Leading) -> LevelAnswer
         return LevelAnswer::BelowScale;
     }
     LevelAnswer::At(Level(1000 * tens + mantissa_place(table, digits)))
-}
-
-// The level of digits * 10^tens; a number that has tens has ten digits before them.
-pub fn level_of_product(table: &[u64; 1000], digits: u64, tens: u32) -> LevelAnswer
-    requires { ⌜ IsTable (now table) × (tens ≤ 100) × (0 < tens → G ≤ digits) ⌝ }
-    ensures { λ r. ⌜ reading r ≡ levelOf 0 1 (digits * 10 ^ tens) ⌝ }
-{
-    level_of_leading(table, Leading { digits, tens })
 }
 
 // A level less an offset, or below scale.

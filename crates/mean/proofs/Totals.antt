@@ -1,15 +1,15 @@
--- The total of days of which none is too high is the very sum of their powers: 366 days stay far below 2 ^ 192. Assumes nothing.
+-- The total of days of which none is too high is the very sum of their powers, and 366 days have room. Assumes nothing.
 use mathlib.Core.Path.{_≡_, refl, sym, ap, _∙_}
 use mathlib.Core.Bool.{Bool, true, false, _||_, cond}
 use mathlib.Core.List.{List, [], _∷_, _++_}
 use Prim.Native.Nat.{ℕ, zero, suc, _+_, _*_, _%_, _^_, _≤_, _<_, zero-le}
-use native.Mathlib.Nat.{add-zero, zero-add, le-trans, lt-of-le-of-lt, mul-le-mul-right, le-refl}
+use native.Mathlib.Nat.{add-zero, le-refl}
 use native.Mathlib.Numerals.{add-one}
 use native.Mathlib.Omega.{arith}
 use borrow.Author.Tests.{ltb-false, lt-ltb, le-ltb, leb-false, lt-leb, le-leb, eqb-true, ne-eqb}
 use borrow.Author.Needs.{needs}
-use lib.Dec.{ltb, leb, eqb, lit<, lit≤}
-use lib.ListN.{length, take, getD, set, replicate}
+use lib.Dec.{ltb, leb, eqb}
+use lib.ListN.{length, take, getD, set, replicate, length-take}
 use lib.Seq.{take-suc, take-length}
 use Rattle.quantity.specs.Answers.{Reading, level, below-scale, reading, refusalNumber, checkNumber}
 use Rattle.quantity.specs.Rules.{firstOf}
@@ -20,9 +20,8 @@ use Rattle.quantity.specs.declared.Check.{Check}
 use Rattle.quantity.specs.declared.Check.the-variants.{Refused}
 use Rattle.quantity.specs.declared.Refusal.{Refusal}
 use Rattle.power.specs.Power.{e, G}
-use Rattle.power.proofs.Scale.{e-mono, e-at, m-zero}
-use Rattle.limbs.specs.Value.{base, value, limbsOf}
-use Rattle.limbs.proofs.Digits.{value-limbsOf-whole}
+use Rattle.decades.specs.Decades.{total, withPower, Added, Readable}
+use Rattle.decades.proofs.Turns.{with-power, zeros, fresh-total}
 use Rattle.level.specs.Level.{levelOf}
 use Rattle.mean.specs.Mean.{energyOf, sumOf, highestDay, isTooHigh, anyTooHigh, isCountWrong, meanRules, MeanResult, mean, refused, ifAllowed, meanOf}
 use Rattle.mean.specs.Records.{readings, blank, ReadResult, recordAt, found, dayReading, rewriteRules, rewriteNumber, ifWritten, rewritten}
@@ -31,10 +30,10 @@ use Rattle.mean.specs.Total.{noDays, withDay, withRead, totalOf, daysCou
 use Rattle.mean.specs.declared.Total.{Total}
 
 -- one day more
-pub with-high : (t : Total) {c : ℕ} → highestDay < c → record { sum = t .sum; high = true } ≡ withDay t (level c)
+pub with-high : (t : Total) {c : ℕ} → highestDay < c → record { sums = t .sums; high = true } ≡ withDay t (level c)
 with-high t h = rw (lt-ltb _ _ h)
 
-pub with-more : (t : Total) {c : ℕ} {s : List ℕ} → c ≤ highestDay → s ≡ limbsOf 6 (value (t .sum) + e c) → record { sum = s; high = t .high } ≡ withDay t (level c)
+pub with-more : (t : Total) {c : ℕ} {s : List ℕ} → c ≤ highestDay → s ≡ withPower (t .sums) c → record { sums = s; high = t .high } ≡ withDay t (level c)
 with-more t h i = rw (le-ltb _ _ h, i)
 
 or-none : (a : Bool) → a ≡ (a || false)
@@ -52,7 +51,7 @@ or-assoc false b c = refl
 day-high : (t : Total) (day : Reading) → withDay t day .high ≡ (t .high || isTooHigh day)
 day-high t (level c) = go (ltb highestDay c)
   where
-    go : (b : Bool) → cond {A = Total} b (record { sum = t .sum; high = true }) (record { sum = limbsOf 6 (value (t .sum) + e c); high = t .high }) .high ≡ (t .high || b)
+    go : (b : Bool) → cond {A = Total} b (record { sums = t .sums; high = true }) (record { sums = withPower (t .sums) c; high = t .high }) .high ≡ (t .high || b)
     go true = or-all (t .high)
     go false = or-none (t .high)
 day-high t below-scale = or-none (t .high)
@@ -65,54 +64,52 @@ total-high t (day ∷ days) =
     ∙ ap (λ (b : Bool). b || anyTooHigh days) (day-high t day)
     ∙ or-assoc (t .high) (isTooHigh day) (anyTooHigh days)
 
--- a day's power is at most e(20000)
-highest-power : e highestDay ≡ 10 ^ 29
-highest-power = e-at 20 0 (lit≤ tt) ∙ ap (λ (n : ℕ). n * 10 ^ 20) m-zero
+-- the sums of n days at the most
+pub record Kept (n : ℕ) (s : List ℕ) : Type 0 where
+  pub size : length s ≡ 21
+  pub most : (j : ℕ) → getD s j 0 ≤ 10 * G * n
 
-day-below : (day : Reading) → isTooHigh day ≡ false → energyOf day ≤ 10 ^ 29
-day-below (level c) h = rw (← highest-power) (e-mono (ltb-false highestDay c h))
-day-below below-scale h = zero-le
+-- the power of a level that is not too high is added
+power-added : (s : List ℕ) (c : ℕ) → length s ≡ 21 → ltb highestDay c ≡ false → Added s 1 (e c) (withPower s c)
+power-added s c l h = with-power s c (omega (arith, ltb-false highestDay c h))
 
-sum-below : (days : List Reading) → anyTooHigh days ≡ false → sumOf days ≤ length days * 10 ^ 29
-unfolding sumOf anyTooHigh
-sum-below [] h = le-refl 0
-sum-below (day ∷ days) h =
-    let n = neither (isTooHigh day) (anyTooHigh days) h in
-    omega (arith, day-below day (n .0), sum-below days (n .1))
+day-kept : (n : ℕ) (t : Total) (day : Reading) → Kept n (t .sums) → Kept (suc n) (withDay t day .sums)
+day-kept n t below-scale p = record { size = p .size; most = λ j. omega (arith, p .most j) }
+day-kept n t (level c) p = go (ltb highestDay c) refl
+  where
+    go : (b : Bool) → ltb highestDay c ≡ b → Kept (suc n) (cond {A = Total} b (record { sums = t .sums; high = true }) (record { sums = withPower (t .sums) c; high = t .high }) .sums)
+    go true q = record { size = p .size; most = λ j. omega (arith, p .most j) }
+    go false q =
+        let a = power-added (t .sums) c (p .size) q in
+        record { size = a .size ∙ p .size; most = λ j. omega (arith, a .most j, p .most j) }
 
--- no sum wraps
-module _ (v x s B : ℕ) (h : v + (x + s) < B) where
-  first-fits : v + x < B
-  first-fits = omega arith
+total-kept : (n : ℕ) (t : Total) (days : List Reading) → Kept n (t .sums) → Kept (n + length days) (totalOf t days .sums)
+unfolding totalOf
+total-kept n t [] p = rw (add-zero n) p
+total-kept n t (day ∷ days) p =
+    let e : suc n + length days ≡ n + suc (length days) = omega arith in
+    rw (← e) (total-kept (suc n) (withDay t day) days (day-kept n t day p))
 
-  rest-fits : (w : ℕ) → w ≡ v + x → w + s < B
-  rest-fits w g = omega arith
+pub total-readable : (days : List Reading) → length days ≤ 366 → Readable (totalOf noDays days .sums)
+total-readable days h =
+    let p = total-kept 0 noDays days (record { size = refl; most = λ j. omega (arith, zeros 21 j) }) in
+    record { few = omega (arith, p .size); each = λ j. omega (arith, p .most j) }
 
-  regrouped : (w u : ℕ) → w ≡ v + x → u ≡ w + s → u ≡ v + (x + s)
-  regrouped w u g i = omega arith
+day-sum : (t : Total) (day : Reading) → length (t .sums) ≡ 21 → isTooHigh day ≡ false → Added (t .sums) 1 (energyOf day) (withDay t day .sums)
+day-sum t (level c) l h = rw h (power-added (t .sums) c l h)
+day-sum t below-scale l h = record { size = refl; whole = sym (add-zero (total (t .sums))); most = λ j. omega arith }
 
-day-sum : (t : Total) (day : Reading) → isTooHigh day ≡ false → value (t .sum) + energyOf day < base ^ 6 → value (withDay t day .sum) ≡ value (t .sum) + energyOf day
-day-sum t (level c) h l = rw h (value-limbsOf-whole 6 (value (t .sum) + e c) l)
-day-sum t below-scale h l = sym (add-zero (value (t .sum)))
-
-total-sum : (t : Total) (days : List Reading) → anyTooHigh days ≡ false → value (t .sum) + sumOf days < base ^ 6 → value (totalOf t days .sum) ≡ value (t .sum) + sumOf days
+total-sum : (t : Total) (days : List Reading) → length (t .sums) ≡ 21 → anyTooHigh days ≡ false → total (totalOf t days .sums) ≡ total (t .sums) + sumOf days
 unfolding totalOf anyTooHigh sumOf
-total-sum t [] h l = sym (add-zero (value (t .sum)))
-total-sum t (day ∷ days) h l =
+total-sum t [] l h = sym (add-zero (total (t .sums)))
+total-sum t (day ∷ days) l h =
     let n = neither (isTooHigh day) (anyTooHigh days) h in
-    let d = day-sum t day (n .0) (first-fits _ _ _ _ l) in
-    regrouped _ _ _ _ l _ _ d (total-sum (withDay t day) days (n .1) (rest-fits _ _ _ _ l _ d))
-
-no-sum : value (noDays .sum) ≡ 0
-unfolding value
-no-sum = refl
+    let d = day-sum t day l (n .0) in
+    omega (arith, d .whole, total-sum (withDay t day) days (d .size ∙ l) (n .1))
 
 -- the total of a year without a level that is too high
-year-sum : (days : List Reading) → anyTooHigh days ≡ false → length days ≤ 366 → value (totalOf noDays days .sum) ≡ sumOf days
-year-sum days h l =
-    let few : sumOf days ≤ 366 * 10 ^ 29 = le-trans (sum-below days h) (mul-le-mul-right (10 ^ 29) l) in
-    let fits : value (noDays .sum) + sumOf days < base ^ 6 = rw (no-sum, zero-add (sumOf days)) (lt-of-le-of-lt few (lit< tt)) in
-    total-sum noDays days h fits ∙ ap (λ (n : ℕ). n + sumOf days) no-sum ∙ zero-add (sumOf days)
+year-sum : (days : List Reading) → anyTooHigh days ≡ false → total (totalOf noDays days .sums) ≡ sumOf days
+year-sum days h = omega (arith, total-sum noDays days refl h, fresh-total 21)
 
 -- the mean from the total
 counted-all : (fewest most n : ℕ) → isCountWrong fewest most n ≡ false → (fewest ≤ n) × (n ≤ most)
@@ -137,10 +134,10 @@ unfolding closedOf meanOf firstOf
 mean-closed fewest most days positive few = go (isCountWrong fewest most (length days)) refl
   where
     whole : (high : Bool) → anyTooHigh days ≡ high → length days ≤ 366
-        → ifAllowed (firstOf (meanRules false high)) (levelOf 0 (length days) (value (totalOf noDays days .sum)))
+        → ifAllowed (firstOf (meanRules false high)) (levelOf 0 (length days) (total (totalOf noDays days .sums)))
         ≡ ifAllowed (firstOf (meanRules false high)) (levelOf 0 (length days) (sumOf days))
     whole true q l = refl
-    whole false q l = ap (λ (s : ℕ). mean (levelOf 0 (length days) s)) (year-sum days q l)
+    whole false q l = ap (λ (s : ℕ). mean (levelOf 0 (length days) s)) (year-sum days q)
 
     go : (b : Bool) → isCountWrong fewest most (length days) ≡ b
         → closedOf (totalOf noDays (take (daysCounted b (length days)) days)) (daysCounted b (length days))
@@ -196,6 +193,11 @@ total-next days k h read more =
     ∙ ap (withRead (totalOf noDays (take k (readings days)))) (read ∙ record-found days k h)
     ∙ ap (withDay (totalOf noDays (take k (readings days)))) (sym (reading-at days k))
     ∙ total-more noDays (readings days) k (rw (length-readings days) h)
+
+-- the first records have room
+pub records-readable : (days : List DayAnswer) (k : ℕ) → k ≤ 366 → Readable (totalTo days k .sums)
+unfolding totalTo
+records-readable days k h = total-readable (take k (readings days)) (rw length-take (omega arith))
 
 -- the mean of all records, where as many of them are added up as are counted
 pub mean-total : (fewest most : ℕ) (days : List DayAnswer) → 0 < fewest → most ≤ 366

@@ -1,28 +1,27 @@
--- The total that a mean is formed from, day by day. Its sum is kept modulo 2 ^ 192, which 366 days never reach.
+-- The total that a mean is formed from, day by day: a sum of powers for each of the decades up to 20000.
 use mathlib.Core.Bool.{Bool, true, false, cond}
 use mathlib.Core.List.{List, [], _∷_}
-use Prim.Native.Nat.{ℕ, _+_}
+use Prim.Native.Nat.{ℕ}
 use lib.Dec.{ltb, eqb}
 use lib.ListN.{replicate}
 use Rattle.quantity.specs.Answers.{Reading, level, below-scale}
 use Rattle.quantity.specs.Rules.{firstOf}
-use Rattle.power.specs.Power.{e}
-use Rattle.limbs.specs.Value.{value, limbsOf}
 use Rattle.level.specs.Level.{levelOf}
+use Rattle.decades.specs.Decades.{total, withPower}
 use Rattle.mean.specs.Mean.{highestDay, meanRules, MeanResult, ifAllowed}
 use Rattle.mean.specs.Records.{ReadResult, found, refused}
 use Rattle.mean.specs.declared.Total.{Total}
 
 -- the total of no days
 abbrev pub noDays : Total
-noDays = record { sum = replicate 6 0; high = false }
+noDays = record { sums = replicate 21 0; high = false }
 
 -- the total with one day more; a level that is too high is noted and not added
 abbrev pub withDay : Total → Reading → Total
 withDay t (level c) =
     cond (ltb highestDay c)
-    (record { sum = t .sum; high = true })
-    (record { sum = limbsOf 6 (value (t .sum) + e c); high = t .high })
+    (record { sums = t .sums; high = true })
+    (record { sums = withPower (t .sums) c; high = t .high })
 withDay t below-scale = t
 
 -- the total with the day of a record that was read
@@ -41,4 +40,4 @@ daysCounted wrong count = cond wrong 0 count
 
 -- the mean of a total over the number of days that were added up
 unfoldable pub closedOf : Total → ℕ → MeanResult
-closedOf t days = ifAllowed (firstOf (meanRules (eqb days 0) (t .high))) (levelOf 0 days (value (t .sum)))
+closedOf t days = ifAllowed (firstOf (meanRules (eqb days 0) (t .high))) (levelOf 0 days (total (t .sums)))

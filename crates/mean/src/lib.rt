@@ -4,9 +4,9 @@ ghost use Prim.Native.Nat.{_+_, _≤_, _<_};
 ghost use lib.Dec.{eqb};
 ghost use lib.ListN.{length};
 ghost use Rattle.quantity.specs.Answers.{reading, checkNumber};
-ghost use Rattle.power.specs.Power.{e};
-ghost use Rattle.limbs.specs.Value.{value, limbsOf};
-ghost use Rattle.mean.specs.Mean.{isTooHigh, isCountWrong, meanResult, meanOf, weekMeanOf, yearMeanOf};
+ghost use Rattle.power.specs.Power.{IsTable};
+ghost use Rattle.decades.specs.Decades.{withPower, Readable};
+ghost use Rattle.mean.specs.Mean.{highestDay, isTooHigh, isCountWrong, meanResult, meanOf, weekMeanOf, yearMeanOf};
 ghost use Rattle.mean.specs.Records.{readings, readResult, recordAt, rewriteNumber, rewritten};
 ghost use Rattle.mean.specs.Total.{noDays, withDay, withRead, daysCounted, closedOf};
 use quantity::Check;
@@ -30,9 +30,9 @@ pub enum ReadAnswer {
     Refused(Refusal),
 }
 
-// The sum of e over some days as six limbs, and whether one of their levels was too high.
+// The sum of e over some days by decades, and whether one of their levels was too high.
 pub struct Total {
-    pub sum: [u32; 6],
+    pub sums: [u64; 21],
     pub high: bool,
 }
 
@@ -46,16 +46,13 @@ pub fn is_too_high(level: LevelAnswer) -> bool
     }
 }
 
-// A sum with e of one level more, modulo 2^192.
-fn sum_with(sum: [u32; 6], level: Level) -> [u32; 6]
-    ensures { λ r. ⌜ r ≡ limbsOf 6 (value sum + e (level .0)) ⌝ }
+// The sums with e of one level more.
+fn sums_with(table: &[u64; 1000], sums: [u64; 21], level: Level) -> [u64; 21]
+    requires { ⌜ IsTable (now table) × Readable sums × (level .0 ≤ highestDay) ⌝ }
+    ensures { λ r. ⌜ r ≡ withPower sums (level .0) ⌝ }
 {
-    let power = power::power_of(level);
-    let mut added = [0u32; 6];
-    limbs::put(&mut added, power.mantissa);
-    limbs::scale_by_power_of_ten(&mut added, power.exponent);
-    let mut next = sum;
-    limbs::add(&mut next, &added);
+    let mut next = sums;
+    decades::add_level(table, &mut next, level);
     next
 }
 
@@ -64,22 +61,23 @@ pub fn no_days() -> Total
     ensures { λ r. ⌜ r ≡ noDays ⌝ }
 {
     Total {
-        sum: [0u32; 6],
+        sums: [0u64; 21],
         high: false,
     }
 }
 
 // A total with one day's level more.
-pub fn with_day(total: Total, level: LevelAnswer) -> Total
+pub fn with_day(table: &[u64; 1000], total: Total, level: LevelAnswer) -> Total
+    requires { ⌜ IsTable (now table) × Readable (total .sums) ⌝ }
     ensures { λ r. ⌜ r ≡ withDay total (reading level) ⌝ }
 {
-    let sum = total.sum;
+    let sums = total.sums;
     match level {
         LevelAnswer::At(at) => if HIGHEST_DAY < at.0 {
-            Total { sum, high: true }
+            Total { sums, high: true }
         } else {
             Total {
-                sum: sum_with(sum, at),
+                sums: sums_with(table, sums, at),
                 high: total.high,
             }
         },
@@ -89,12 +87,14 @@ pub fn with_day(total: Total, level: LevelAnswer) -> Total
 
 // A total with the day of a record that was read.
 fn with_read(total: Total, read: ReadAnswer) -> Total
+    requires { ⌜ Readable (total .sums) ⌝ }
     ensures { λ r. ⌜ r ≡ withRead total (readResult read) ⌝ }
 {
     match read {
         ReadAnswer::Record(day) => {
             let level = day.level;
-            with_day(total, level)
+            let table = power::mantissas();
+            with_day(&table, total, level)
         }
         ReadAnswer::Refused(_) => total,
     }
@@ -115,17 +115,18 @@ pub fn days_counted(count: usize, fewest: usize, most: usize) -> usize
 
 // The mean of a total over the number of days that were added up.
 pub fn closed(total: Total, days: usize) -> MeanAnswer
-    requires { ⌜ days ≤ 366 ⌝ }
+    requires { ⌜ (days ≤ 366) × Readable (total .sums) ⌝ }
     ensures { λ r. ⌜ meanResult r ≡ closedOf total days ⌝ }
 {
-    let sum = total.sum;
+    let sums = total.sums;
     if days == 0 {
         return MeanAnswer::Refused(Refusal::DayCount);
     }
     if total.high {
         return MeanAnswer::Refused(Refusal::RecordLevelTooHigh);
     }
-    MeanAnswer::Mean(level::level_over(sum, days as u32, 0))
+    let table = power::mantissas();
+    MeanAnswer::Mean(decades::level_over(&table, &sums, days as u32))
 }
 
 // Refusals 13 and 14 of rewriting a record.

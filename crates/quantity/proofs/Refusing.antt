@@ -2,7 +2,7 @@
 use mathlib.Core.Path.{_≡_, refl, ap}
 use mathlib.Core.Bool.{Bool, true, false, cond}
 use mathlib.Core.List.{List, [], _∷_}
-use Prim.Native.Nat.{ℕ, _<_}
+use Prim.Native.Nat.{ℕ, zero, suc, _<_}
 use native.Mathlib.Omega.{arith}
 use lib.Dec.{lit<}
 use Rattle.quantity.specs.Answers.{refusalNumber}
@@ -42,6 +42,28 @@ pass (r ∷ rs) t e = go (r .refuses) refl e (pass rs (t .1))
     go : (b : Bool) → r .refuses ≡ b → cond b (r .number) (firstOf rs) ≡ 0 → (firstOf rs ≡ 0 → Pass rs) → Pass (r ∷ rs)
     go true q h k = absurd (omega (arith, t .0))
     go false q h k = (q, k h)
+
+-- rule k of a table refuses, counted from 0, and none before it
+abbrev pub Stops : ℕ → List Rule → Type 0
+Stops k [] = ⊥
+Stops zero (r ∷ rs) = r .refuses ≡ true
+Stops (suc k) (r ∷ rs) = (r .refuses ≡ false) × Stops k rs
+
+abbrev pub numberAt : ℕ → List Rule → ℕ
+numberAt k [] = 0
+numberAt zero (r ∷ rs) = r .number
+numberAt (suc k) (r ∷ rs) = numberAt k rs
+
+pub stops : (k : ℕ) (rs : List Rule) → Stops k rs → numberAt k rs ≡ firstOf rs
+unfolding firstOf
+stops k [] h = absurd h
+stops zero (r ∷ rs) h = rw h
+stops (suc k) (r ∷ rs) h = rw (h .0) (stops k rs (h .1))
+
+pub passes : (rs : List Rule) → Pass rs → 0 ≡ firstOf rs
+unfolding firstOf
+passes [] h = refl
+passes (r ∷ rs) h = rw (h .0) (passes rs (h .1))
 
 -- a refusal has a number
 pub refusal-positive : (r : Refusal) → 0 < refusalNumber r

@@ -1,3 +1,2 @@
--- What the contracts of `report` cite: the lines of the day program, and the whole of what it prints for a file.
+-- What the contracts of `report` cite: the lines of the day program.
 pub mod Text
-pub mod Report

@@ -2,7 +2,7 @@
 ghost use mathlib.Core.Path.{_≡_};
 ghost use mathlib.Core.List.{[], _∷_, _++_};
 ghost use Prim.Native.Nat.{_+_, _≤_};
-ghost use lib.ListN.{length, take};
+ghost use lib.ListN.{length, take, drop};
 ghost use Rattle.quantity.specs.Answers.{reading, highestReading, refusalNumber};
 ghost use Rattle.ledger.specs.Offer.{offerResult};
 ghost use Rattle.closing.specs.Close.{closeResult};
@@ -26,11 +26,12 @@ use quantity::HighestLevel;
 use quantity::LevelAnswer;
 use quantity::Refusal;
 
-// Puts some bytes behind those that a line has, and gives their number with these.
-fn put(line: &mut [u8], at: usize, bytes: &[u8]) -> usize
+// Puts some bytes behind those that a line has, and gives their number with these. What lies further behind stays.
+pub fn put(line: &mut [u8], at: usize, bytes: &[u8]) -> usize
     requires { ⌜ at + length (now bytes) ≤ length (now line) ⌝ }
     ensures { λ r. ⌜ take r (now (line .exit)) ≡ take at (now (line .entry)) ++ now (bytes .entry) ⌝ }
     ensures size { λ r. ⌜ r ≡ at + length (now (bytes .entry)) ⌝ }
+    ensures rest { λ r. ⌜ drop r (now (line .exit)) ≡ drop r (now (line .entry)) ⌝ }
 {
     let mut i = 0;
     while i < bytes.len() {
@@ -146,6 +147,7 @@ fn put_close(line: &mut [u8; 64], at: usize, answer: CloseAnswer) -> usize
 pub fn event_line(line: &mut [u8; 64], i: u32, answer: OfferAnswer) -> usize
     ensures { λ r. ⌜ Counts r (now (line .exit)) ⌝ }
     ensures { λ r. ⌜ take r (now (line .exit)) ≡ eventLine i (offerResult answer) ⌝ }
+    ensures size { λ r. ⌜ r ≤ 64 ⌝ }
 {
     let letter = put(line, 0, b"E");
     let number = put_number(line, letter, i);
@@ -157,6 +159,7 @@ pub fn event_line(line: &mut [u8; 64], i: u32, answer: OfferAnswer) -> usize
 pub fn day_line(line: &mut [u8; 64], answer: CloseAnswer) -> usize
     ensures { λ r. ⌜ Counts r (now (line .exit)) ⌝ }
     ensures { λ r. ⌜ take r (now (line .exit)) ≡ dayLine (closeResult answer) ⌝ }
+    ensures size { λ r. ⌜ r ≤ 64 ⌝ }
 {
     let letter = put(line, 0, b"D");
     let fields = put_close(line, letter, answer);
@@ -167,6 +170,7 @@ pub fn day_line(line: &mut [u8; 64], answer: CloseAnswer) -> usize
 pub fn fault_line(line: &mut [u8; 64], refusal: Refusal) -> usize
     ensures { λ r. ⌜ Counts r (now (line .exit)) ⌝ }
     ensures { λ r. ⌜ take r (now (line .exit)) ≡ faultLine (refusalNumber refusal) ⌝ }
+    ensures size { λ r. ⌜ r ≤ 64 ⌝ }
 {
     let letter = put(line, 0, b"F");
     let number = put_number(line, letter, quantity::refusal_number(refusal) as u32);

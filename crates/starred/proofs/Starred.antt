@@ -7,7 +7,7 @@ use lib.Dec.{lit<, lit≤}
 use Rattle.quantity.specs.Answers.{Reading}
 use Rattle.quantity.specs.Rules.{firstOf}
 use Rattle.limbs.specs.Value.{value, limbsOf}
-use Rattle.event.specs.Event.{energies}
+use Rattle.decades.specs.Decades.{energies}
 use Rattle.ledger.specs.Book.{sumOf}
 use Rattle.closing.specs.Close.{closed, sharesHold}
 use Rattle.mean.specs.Mean as means

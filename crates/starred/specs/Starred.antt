@@ -9,7 +9,7 @@ use lib.ListN.{length, replicate}
 use Rattle.quantity.specs.Answers.{Reading, level, below-scale}
 use Rattle.quantity.specs.Rules.{Outcome, given}
 use Rattle.power.specs.Power.{m}
-use Rattle.event.specs.Event.{measuredOf}
+use Rattle.event.specs.Event.{exposureOf}
 use Rattle.ledger.specs.Day.{opened}
 use Rattle.ledger.specs.Offer.{Offering, offered}
 use Rattle.ledger.specs.declared.Day.{Day}
@@ -54,7 +54,7 @@ dayOf day (o ∷ os) = dayOf (offered day o .day) os
 -- the definitions' answer; a day is closed with the calibration of the example, 9400 before and after
 abbrev pub answer : (q : Question) → Answer q
 answer (mantissa f) = m f
-answer (exposure samples) = measuredOf samples .exposure
+answer (exposure samples) = exposureOf samples
 answer (closing book offers) = closedOf (dayOf (opened (book .daytime) (book .night) .day) offers) 9400 9400
 answer (week days) = weekMeanOf days
 answer (verdict class yearly sensitive highest) = verdictOf class yearly sensitive highest

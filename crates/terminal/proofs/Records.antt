@@ -2,12 +2,14 @@
 use mathlib.Core.Path.{_≡_, refl, ap, _∙_}
 use mathlib.Core.List.{List, [], _∷_}
 use Prim.Native.Nat.{ℕ, zero, suc, _+_, _≤_, _<_}
-use lib.ListN.{length, take, getD}
+use native.Mathlib.Omega.{arith}
+use lib.ListN.{length, take, getD, length-take}
 use Rattle.quantity.specs.Answers.{Reading, level}
+use Rattle.decades.specs.Decades.{Readable}
 use Rattle.mean.specs.Mean.{isCountWrong, meanOf}
 use Rattle.mean.specs.Total.{noDays, withDay, totalOf, daysCounted, closedOf}
 use Rattle.mean.specs.declared.Total.{Total}
-use Rattle.mean.proofs.Totals.{total-more, mean-closed}
+use Rattle.mean.proofs.Totals.{total-more, total-readable, mean-closed}
 use Rattle.terminal.specs.Numbers.{recordLevel, recordLevels}
 
 length-levels : (records : List ℕ) → length (recordLevels records) ≡ length records
@@ -35,6 +37,11 @@ unfolding totalTo
 total-next records k h so-far read more =
     more
     ∙ rw (so-far, read, level-at records k) (total-more noDays (recordLevels records) k (rw (length-levels records) h))
+
+-- the first records have room
+pub records-readable : (records : List ℕ) (k : ℕ) {t : Total} → t ≡ totalTo records k → k ≤ 366 → Readable (t .sums)
+unfolding totalTo
+records-readable records k e h = rw e (total-readable (take k (recordLevels records)) (rw length-take (omega arith)))
 
 -- the mean of all records, where as many of them are added up as are counted
 pub mean-total : (fewest most : ℕ) (records : List ℕ) → 0 < fewest → most ≤ 366

@@ -216,10 +216,11 @@ fn mean_of(records: &[u64], fewest: usize, most: usize) -> MeanAnswer
     ensures { λ r. ⌜ meanResult r ≡ meanOf fewest most (recordLevels (now (records .entry))) ⌝ }
 {
     let counted = mean::days_counted(records.len(), fewest, most);
+    let table = power::mantissas();
     let mut total = mean::no_days();
     let mut i = 0;
     while i < counted {
-        let next = mean::with_day(total, record_level(records[i]));
+        let next = mean::with_day(&table, total, record_level(records[i]));
         total = next;
         i += 1;
     }

@@ -1,63 +1,81 @@
--- `day::run` is safe: the first event begins in what is held of the file. Assumes nothing.
-use mathlib.Core.Path.{sym}
+-- `day::run` is safe and ends: what is not used up yet lies in what is held, and each turn brings the reader nearer to its end. Assumes nothing.
+use mathlib.Core.Path.{_≡_, sym, ap, _∙_}
+use Prim.Native.Nat.{_-_, _≤_}
 use native.Mathlib.Omega.{arith}
-use lib.ListN.{take}
+use lib.Dec.{ltb}
+use lib.ListN.{length, take, drop, length-drop}
 use lib.Seq.{length-take-le}
-use Rattle.day_file.proofs.Taking.{start-inside}
 use borrow.Author.Needs.{needs}
+use borrow.Author.Tests.{not-true}
+use Rattle.steps.specs.Machine.{Next, stateOf}
+use Rattle.steps.specs.Run.{mostEvents, stepsLeft}
+use Rattle.steps.proofs.Ending.{nearer-law}
 use Rattle.day.proofs.run.Statement.{statement}
 use Rattle.day.proofs.run.Tie as tie
 
-slice-reshare-prefix-read-start : tie.Need-slice-reshare-prefix-read-start
-slice-reshare-prefix-read-start c = search needs
+abbrev Inv-loop : tie.InvT-loop
+Inv-loop held₀ size turn₀ held turn =
+    (turn .at ≤ turn .end) × (turn .end ≤ length held) × (length held ≡ length held₀)
 
-slice-aggregate-read-start : tie.Need-slice-aggregate-read-start
-slice-aggregate-read-start c = sym (length-take-le _ _ (search needs))
+abbrev μ-loop : tie.MeasureT-loop
+μ-loop held₀ size turn₀ held turn = stepsLeft (stateOf (turn .reader))
 
-read-start-requires : tie.Need-read-start-requires
-read-start-requires c κs = search needs
+fresh-requires : tie.Need-fresh-requires Inv-loop μ-loop
+fresh-requires c κs = search needs
 
-enum-known-answer : tie.Need-enum-known-answer
-enum-known-answer c = search needs
+loop-holds : tie.Need-loop-holds Inv-loop μ-loop
+loop-holds c = search needs
 
-write-fault-requires : tie.Need-write-fault-requires
-write-fault-requires c κs = search needs
+is-over-requires : tie.Need-is-over-requires Inv-loop μ-loop
+is-over-requires c κs = search needs
 
-enum-known-answer-2 : tie.Need-enum-known-answer-2
-enum-known-answer-2 c = search needs
+take-turn-requires : tie.Need-take-turn-requires Inv-loop μ-loop
+take-turn-requires c κs = search needs
 
-run-events-requires : tie.Need-run-events-requires
-run-events-requires c κs =
-    let k = c .before .before .before .before .before in
-    let held = k .before .before .before .args .held .now in
-    let filled = k .before .before .before .args .filled in
-    let e = start-inside (take filled held) (k .read-start .result) (k .read-start .ensures) (c .before .before .answer2 .given .1) in
-    (omega (arith, e, length-take-le filled held (search needs)), search needs)
+write-line-requires : tie.Need-write-line-requires Inv-loop μ-loop
+write-line-requires c κs = search needs
 
-same-length : tie.Need-same-length
+loop-less : tie.Need-loop-less Inv-loop μ-loop
+loop-less c =
+    let k = c .before .before .before in
+    let t = k .take-turn in
+    let p = t .ensures in
+    let r = t .result in
+    let held = t .last .0 in
+    let window = take (r .end - r .from) (drop (r .from) held) in
+    let long : length window ≡ r .end - r .from = length-take-le _ _ (simp length-drop (omega (arith, p .inside))) in
+    let bound : r .reader .count ≤ mostEvents = omega (arith, t .ok) in
+    let d = k .before .before .before in
+    rw (ap (λ (n : Next). stepsLeft (n .state)) (p .step))
+    (nearer-law (stateOf (d .before .loop .turn .reader)) window (ltb (r .end) (length held))
+    (λ f. omega (arith, long, p .enough f))
+    (sym (d .is-over .ensures) ∙ not-true _ (k .before .before .if1 .taken))
+    (omega (arith, bound, ap (λ (n : Next). n .state .count) (p .step))))
+
+loop-again : tie.Need-loop-again Inv-loop μ-loop
+loop-again c =
+    let k = c .before .before .before in
+    let p = k .take-turn .ensures in
+    (p .used .1, p .inside .1, p .whole ∙ k .before .before .before .before .loop .inv .2)
+
+same-length : tie.Need-same-length Inv-loop μ-loop
 same-length c = search needs
 
-returns : tie.Need-returns
+returns : tie.Need-returns Inv-loop μ-loop
 returns c = search needs
-
-same-length-2 : tie.Need-same-length-2
-same-length-2 c = search needs
-
-returns-2 : tie.Need-returns-2
-returns-2 c = search needs
 
 pub run-spec : {M : Type 1} → statement M
 run-spec =
     tie.close
     (tie.spec
-    slice-reshare-prefix-read-start
-    slice-aggregate-read-start
-    read-start-requires
-    enum-known-answer
-    write-fault-requires
-    enum-known-answer-2
-    run-events-requires
+    Inv-loop
+    μ-loop
+    fresh-requires
+    loop-holds
+    is-over-requires
+    take-turn-requires
+    write-line-requires
+    loop-less
+    loop-again
     same-length
-    returns
-    same-length-2
-    returns-2)
+    returns)

@@ -4,7 +4,7 @@
 -- Assumes nothing.
 use mathlib.Core.Path.{_≡_, refl, sym, ap, _∙_, subst}
 use Prim.Native.Nat.{ℕ, _+_, _-_, _≤_, _<_, _^_, zero-le}
-use native.Mathlib.Nat.{le-antisymm, lt-of-le-of-lt, lt-of-lt-of-le}
+use native.Mathlib.Nat.{le-trans, le-antisymm, lt-of-le-of-lt, lt-of-lt-of-le}
 use native.Mathlib.Numerals.{add-one-le, add-one-dec}
 use mathlib.Core.Bool.{Bool, true, false, not}
 use mathlib.Core.WellFounded.{WellFounded, InvImage·wf}
@@ -49,6 +49,7 @@ use denote.Triple.Walked.{says, needs, Stays, stay-none, stay-none-slice, walkOf
 use denote.Exit.{yes}
 use Rattle.quantity.specs.declared.DayAnswer.{DayAnswer}
 use Rattle.quantity.proofs.DayAnswer as T
+use Rattle.decades.specs.Decades.{Readable}
 use Rattle.mean.specs.declared.MeanAnswer.{MeanAnswer}
 use Rattle.mean.specs.declared.ReadAnswer.{ReadAnswer}
 use Rattle.mean.specs.declared.Total.{Total}
@@ -62,7 +63,7 @@ use Rattle.mean.proofs.ReadAnswer.Laws as R′
 use Rattle.mean.proofs.Total as S
 use Rattle.mean.proofs.Total.Laws as S′
 use Rattle.mean.proofs.Elements.{holds, fails}
-use Rattle.mean.proofs.Totals.{totalTo, total-none, total-next, mean-total, counted-few, counted-within}
+use Rattle.mean.proofs.Totals.{totalTo, total-none, total-next, records-readable, mean-total, counted-few, counted-within}
 use Rattle.mean.proofs.days_counted as count
 use Rattle.mean.proofs.days_counted.Symbol as count-def
 use Rattle.mean.proofs.days_counted.Symbol.{name as #mean·days-counted}
@@ -198,10 +199,10 @@ module _ {M : Type 1} (𝓤 : URA M) (H : Heap 𝓤) (A : Atoms 𝓤) (W : Given
     abbrev to-with : ReadAnswer → Val → With 𝓤 H A mem run .Ghost
     to-with a u = ((tt, tt, tt, (t, (a, tt)), (w ∷ [], (u ∷ [], tt))), tt)
 
-    goes-with : (a : ReadAnswer) (u : Val) → ent 𝓤 (sem 𝓤 H A (R.the-row .own a (u ∷ []))) (With 𝓤 H A mem run .pre (to-with a u))
-    goes-with a u =
-        qed W (‵ (R.the-row .own a (u ∷ [])) ∷ []) ∵ nothing ! $ move ! (1 ∷ 0 ∷ []) $ fjoin ! $
-        owned ! S.the-row (Is S.the-row) (LL.makes S.the-type S′.the-plain 𝓤 H A) t _ is $ fjoin ! $ nothing ! $ join ! $ frame ! $ done !
+    goes-with : Readable (t .sums) → (a : ReadAnswer) (u : Val) → ent 𝓤 (sem 𝓤 H A (R.the-row .own a (u ∷ []))) (With 𝓤 H A mem run .pre (to-with a u))
+    goes-with fits a u =
+        qed W (‵ (R.the-row .own a (u ∷ [])) ∷ []) ∵ says ! fits $ nothing ! $ move ! (1 ∷ 0 ∷ []) $ fjoin ! $
+        owned ! S.the-row (Is S.the-row) (LL.makes S.the-type S′.the-plain 𝓤 H A) t _ is $ fjoin ! $ nothing ! $ frame ! $ done !
 
     said-with : (a : ReadAnswer) (t′ : Total) → ent 𝓤 (ensured 𝓤 H A more-days.ended (more-days.clauses 𝓤 H A mem run) tt (t, (a, tt)) tt t′) (fact 𝓤 (t′ ≡ withRead t (readResult a)))
     said-with a t′ = exE 𝓤 _ (λ ws. snd∗ 𝓤 (sem 𝓤 H A (lasts more-days.ended tt (t, (a, tt)) ws)) (fact 𝓤 (t′ ≡ withRead t (readResult a))))
@@ -210,9 +211,9 @@ module _ {M : Type 1} (𝓤 : URA M) (H : Heap 𝓤) (A : Atoms 𝓤) (W : Given
     abbrev to-close : Close 𝓤 H A mem run .Ghost
     to-close = ((tt, tt, tt, (t, (d, tt)), (w ∷ [], (vint w64 d ∷ [], tt))), tt)
 
-    goes-close : ent 𝓤 (emp 𝓤) (Close 𝓤 H A mem run .pre to-close)
-    goes-close =
-        qed W [] ∵ says ! (counted-few f m n (req .1)) $ nothing ! $ owned ! usize (Is usize) (uint-makes 𝓤 H A W w64) d _ (refl, gd) $ fjoin ! $
+    goes-close : Readable (t .sums) → ent 𝓤 (emp 𝓤) (Close 𝓤 H A mem run .pre to-close)
+    goes-close fits =
+        qed W [] ∵ says ! (counted-few f m n (req .1), fits) $ nothing ! $ owned ! usize (Is usize) (uint-makes 𝓤 H A W w64) d _ (refl, gd) $ fjoin ! $
         owned ! S.the-row (Is S.the-row) (LL.makes S.the-type S′.the-plain 𝓤 H A) t _ is $ fjoin ! $ nothing ! $ frame ! $ done !
 
     said-close : (a : MeanAnswer) → ent 𝓤 (ensured 𝓤 H A close.ended (close.clauses 𝓤 H A mem run) tt (t, (d, tt)) tt a) (fact 𝓤 (meanResult a ≡ closedOf t d))
@@ -221,6 +222,9 @@ module _ {M : Type 1} (𝓤 : URA M) (H : Heap 𝓤) (A : Atoms 𝓤) (W : Given
   -- ---- the loop: the place k, and the machine value of the total of the first k records
   abbrev Upto : Type 0
   Upto = (k : ℕ) × ((w : Val) × ((k ≤ d) × Is S.the-row (totalTo ys k) (w ∷ [])))
+
+  readable : (i : Upto) → Readable (totalTo ys (i .0) .sums)
+  readable i = records-readable ys (i .0) (le-trans (i .1 .1 .0) (counted-few f m n (req .1)))
 
   abbrev Nearer : Upto → Upto → Type 0
   Nearer j i = d - j .0 < d - i .0
@@ -265,7 +269,7 @@ module _ {M : Type 1} (𝓤 : URA M) (H : Heap 𝓤) (A : Atoms 𝓤) (W : Given
         -- [the answer; the token; what days owns; _9; …; _8; …; _7; …; _6; …; _5; …; _4; …; _3; …; _2; …; _1; …; _0; …]
         peeks ! R.the-row (Is R.the-row) (shows 𝓤 H A R.the-row) a (u ∷ []) (λ is.
         land ! (from ! (stop !)) (init ! 7 refl (EL.lawful R.the-type R′.the-laws 𝓤 H A W tt .typed a _ is .0)) $
-        use1 W (raw (With 𝓤 H A mem run .pre (to-with (totalTo ys k) (i .1 .0) (i .1 .1 .1) a u))) (goes-with (totalTo ys k) (i .1 .0) (i .1 .1 .1) a u) $
+        use1 W (raw (With 𝓤 H A mem run .pre (to-with (totalTo ys k) (i .1 .0) (i .1 .1 .1) a u))) (goes-with (totalTo ys k) (i .1 .0) (i .1 .1 .1) (readable i) a u) $
         calls-at ! fm (With 𝓤 H A mem run) known-with (to-with (totalTo ys k) (i .1 .0) (i .1 .1 .1) a u) (and-then ! (load ! (from ! (stop !)) (look ! 11 refl)) (and-then ! (load ! (from ! (stop !)) (look ! 7 refl)) (no-more !))) (λ u′.
         use1 W (later (some (λ (t′ : Total). (‵ ftrue ⊛ ‵ (S.the-row .own t′ (u′ ∷ []))) ⊛ raw (ensured 𝓤 H A more-days.ended (more-days.clauses 𝓤 H A mem run) tt (totalTo ys k, (a, tt)) tt t′)))) (id⊢ 𝓤 _) $ await ! tt $ pick ! (λ t′.
         split ! $ move ! (1 ∷ []) $ use1 W (raw (fact 𝓤 (t′ ≡ withRead (totalTo ys k) (readResult a)))) (said-with (totalTo ys k) (i .1 .0) (i .1 .1 .1) a t′) $ heard ! (t′ ≡ withRead (totalTo ys k) (readResult a)) (λ e′. split ! $ drop ! $
@@ -294,7 +298,7 @@ module _ {M : Type 1} (𝓤 : URA M) (H : Heap 𝓤) (A : Atoms 𝓤) (W : Given
         assigns ! (bin ! (load ! (from ! (stop !)) (look ! 8 refl)) (load ! (from ! (stop !)) (look ! 12 refl)) tt) (from ! (stop !)) (init ! 2 refl (tt, tt)) $
         rewrite ! 2 (λ (y : Bool). ‵ (fat fullShare tyBool l₉ 0 (vbool y))) (fails (ltb (i .0) d) t) refl $ leaves-loop ! (load ! (from ! (stop !)) (look ! 2 refl)) $
         exec ! C Λ En mir.t-6 (atRet En Post) $
-        use0 W (raw (Close 𝓤 H A mem run .pre (to-close (totalTo ys (i .0)) (i .1 .0) (i .1 .1 .1)))) (goes-close (totalTo ys (i .0)) (i .1 .0) (i .1 .1 .1)) $
+        use0 W (raw (Close 𝓤 H A mem run .pre (to-close (totalTo ys (i .0)) (i .1 .0) (i .1 .1 .1)))) (goes-close (totalTo ys (i .0)) (i .1 .0) (i .1 .1 .1) (readable i)) $
         calls-at ! fm (Close 𝓤 H A mem run) known-close (to-close (totalTo ys (i .0)) (i .1 .0) (i .1 .1 .1)) (and-then ! (load ! (from ! (stop !)) (look ! 11 refl)) (and-then ! (load ! (from ! (stop !)) (look ! 13 refl)) (no-more !))) (λ w.
         use1 W (later (some (λ (a : MeanAnswer). (‵ ftrue ⊛ ‵ (N.the-row .own a (w ∷ []))) ⊛ raw (ensured 𝓤 H A close.ended (close.clauses 𝓤 H A mem run) tt (totalTo ys (i .0), (d, tt)) tt a)))) (id⊢ 𝓤 _) $ await ! tt $ pick ! (λ a.
         split ! $ move ! (1 ∷ []) $ use1 W (raw (fact 𝓤 (meanResult a ≡ closedOf (totalTo ys (i .0)) d))) (said-close (totalTo ys (i .0)) (i .1 .0) (i .1 .1 .1) a) $ heard ! (meanResult a ≡ closedOf (totalTo ys (i .0)) d) (λ e. split ! $ drop ! $

@@ -2,13 +2,16 @@
 use borrow.Author.Needs.{needs}
 use mathlib.Core.Path.{sym, ap, _∙_}
 use Rattle.mean.specs.Total.{withRead}
-use Rattle.mean.specs.declared.ReadAnswer.{ReadAnswer}
 use Rattle.mean.specs.Records.{readResult}
+use Rattle.mean.specs.declared.ReadAnswer.{ReadAnswer}
 use Rattle.mean.proofs.with_read.Statement.{statement}
 use Rattle.mean.proofs.with_read.Tie as tie
 
 enum-known-read : tie.Need-enum-known-read
 enum-known-read c = search needs
+
+mantissas-requires : tie.Need-mantissas-requires
+mantissas-requires c κs = search needs
 
 with-day-requires : tie.Need-with-day-requires
 with-day-requires c κs = search needs
@@ -17,10 +20,14 @@ enum-told : tie.Need-enum-told
 enum-told c = search needs
 
 returns : tie.Need-returns
-returns c = c .with-day .ensures ∙ sym (ap (λ (a : ReadAnswer). withRead (c .before .before .before .before .args .total) (readResult a)) (c .before .before .read .given .1))
+returns c =
+    let t = c .before .before .before .before .before .before .args .total in
+    c .with-day .ensures ∙ sym (ap (λ (a : ReadAnswer). withRead t (readResult a)) (c .before .before .before .before .read .given .1))
 
 returns-2 : tie.Need-returns-2
 returns-2 c = sym (ap (λ (a : ReadAnswer). withRead (c .before .before .args .total) (readResult a)) (c .enum-told .given .1))
 
 pub with-read-spec : {M : Type 1} → statement M
-with-read-spec = tie.close (tie.spec enum-known-read with-day-requires enum-told returns returns-2)
+with-read-spec =
+    tie.close
+    (tie.spec enum-known-read mantissas-requires with-day-requires enum-told returns returns-2)

@@ -24,7 +24,7 @@ returns c =
     let close = c .before .before .before in
     let letter = close .before .before in (
       counts _ _ (search needs),
-      rw (c .put2 .ensures .0, close .put-close .ensures .0, letter .put .ensures .0),
+      (rw (c .put2 .ensures .0, close .put-close .ensures .0, letter .put .ensures .0), search needs),
     )
 
 pub day-line-spec : {M : Type 1} → statement M

@@ -31,7 +31,7 @@ returns c =
     let letter = number .before .before in
     let a = letter .before .before .before .args in (
       counts _ _ (search needs),
-      rw (c .put2 .ensures .0, offer .put-offer .ensures .0, number .put-number .ensures .0, letter .put .ensures .0, append-nil (decimal (a .i))),
+      (rw (c .put2 .ensures .0, offer .put-offer .ensures .0, number .put-number .ensures .0, letter .put .ensures .0, append-nil (decimal (a .i))), search needs),
     )
 
 pub event-line-spec : {M : Type 1} → statement M

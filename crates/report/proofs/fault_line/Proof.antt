@@ -30,7 +30,7 @@ returns c =
     let number = c .before .before .before in
     let letter = number .before .before .before in (
       counts _ _ (search needs),
-      rw (c .put2 .ensures .0, number .put-number .ensures .0, number .before .refusal-number .ensures, letter .put .ensures .0),
+      (rw (c .put2 .ensures .0, number .put-number .ensures .0, number .before .refusal-number .ensures, letter .put .ensures .0), search needs),
     )
 
 pub fault-line-spec : {M : Type 1} → statement M

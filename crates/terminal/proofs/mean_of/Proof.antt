@@ -1,31 +1,40 @@
 -- `terminal::mean_of` meets its contract: the total is that of the first `i` records, so at the end that of the records counted. Assumes nothing.
+use borrow.Author.Needs.{needs}
 use Prim.Native.Nat.{_≤_, _-_}
 use mathlib.Core.Path.{_≡_, _∙_}
 use native.Mathlib.Omega.{arith}
 use lib.ListN.{length}
-use borrow.Author.Needs.{needs}
 use Rattle.mean.specs.Mean.{isCountWrong}
 use Rattle.mean.proofs.Totals.{counted-few, counted-within}
-use Rattle.terminal.proofs.Records.{totalTo, total-none, total-next, mean-total}
+use Rattle.terminal.proofs.Records.{totalTo, total-none, total-next, records-readable, mean-total}
 use Rattle.terminal.proofs.mean_of.Statement.{statement}
 use Rattle.terminal.proofs.mean_of.Tie as tie
 
 abbrev Inv-loop : tie.InvT-loop
-Inv-loop records fewest most counted total₀ i₀ total i = (i ≤ counted) × (counted ≤ length records) × (total ≡ totalTo records i)
+Inv-loop records fewest most counted table total₀ i₀ total i = (i ≤ counted) × (counted ≤ length records) × (counted ≤ 366) × (total ≡ totalTo records i)
 
 abbrev μ-loop : tie.MeasureT-loop
-μ-loop records fewest most counted total₀ i₀ total i = counted - i
+μ-loop records fewest most counted table total₀ i₀ total i = counted - i
 
 days-counted-requires : tie.Need-days-counted-requires Inv-loop μ-loop
 days-counted-requires c κs = search needs
+
+mantissas-requires : tie.Need-mantissas-requires Inv-loop μ-loop
+mantissas-requires c κs = search needs
 
 no-days-requires : tie.Need-no-days-requires Inv-loop μ-loop
 no-days-requires c κs = search needs
 
 loop-holds : tie.Need-loop-holds Inv-loop μ-loop
 loop-holds c =
-    let a = c .before .before .before .args in
-    (search needs, rw (c .before .days-counted .ensures) (counted-within (isCountWrong (a .fewest) (a .most) (length (a .records .now))) _), c .no-days .ensures ∙ total-none _)
+    let d = c .before .before .days-counted .ensures in
+    let a = c .before .before .before .before .args in
+    let n = length (a .records .now) in (
+      search needs,
+      rw d (counted-within (isCountWrong (a .fewest) (a .most) n) n),
+      rw d (counted-few (a .fewest) (a .most) n (c .before .before .before .before .pre .1)),
+      c .no-days .ensures ∙ total-none _,
+    )
 
 mul-record-level : tie.Need-mul-record-level Inv-loop μ-loop
 mul-record-level c = search needs
@@ -37,7 +46,7 @@ record-level-requires : tie.Need-record-level-requires Inv-loop μ-loop
 record-level-requires c κs = search needs
 
 with-day-requires : tie.Need-with-day-requires Inv-loop μ-loop
-with-day-requires c κs = search needs
+with-day-requires c κs = let k = c .before .before .before .before in (c .before .before .before .before .before .before .mantissas .ensures, records-readable _ _ (k .loop .inv .3) (omega arith))
 
 add-i : tie.Need-add-i Inv-loop μ-loop
 add-i c = search needs
@@ -47,21 +56,18 @@ loop-less c = search needs
 
 loop-again : tie.Need-loop-again Inv-loop μ-loop
 loop-again c =
-    let k = c .before .before .before .before in
-    (search needs, k .loop .inv .1, total-next _ _ (omega arith) (k .loop .inv .2) (c .before .record-level .ensures) (c .with-day .ensures))
+    let k = c .before .before .before .before .before in
+    (search needs, k .loop .inv .1, k .loop .inv .2, total-next _ _ (omega arith) (k .loop .inv .3) (c .before .record-level .ensures) (c .with-day .ensures))
 
 closed-requires : tie.Need-closed-requires Inv-loop μ-loop
-closed-requires c κs =
-    let d = c .before .before .before in
-    let a = d .before .before .args in
-    rw (d .days-counted .ensures) (counted-few (a .fewest) (a .most) (length (a .records .now)) (d .before .before .pre .1))
+closed-requires c κs = let k = c .before in (k .loop .inv .2, records-readable _ _ (k .loop .inv .3) (omega arith))
 
 returns : tie.Need-returns Inv-loop μ-loop
 returns c =
     let k = c .before .before in
-    let d = k .before .before in
+    let d = k .before .before .before in
     let whole : k .loop .i ≡ d .days-counted .result = omega arith in
-    c .closed .ensures ∙ rw (k .loop .inv .2, whole, d .days-counted .ensures) (mean-total _ _ _ (d .before .before .pre .0) (d .before .before .pre .1))
+    c .closed .ensures ∙ rw (k .loop .inv .3, whole, d .days-counted .ensures) (mean-total _ _ _ (d .before .before .pre .0) (d .before .before .pre .1))
 
 pub mean-of-spec : {M : Type 1} → statement M
 mean-of-spec =
@@ -70,6 +76,7 @@ mean-of-spec =
     Inv-loop
     μ-loop
     days-counted-requires
+    mantissas-requires
     no-days-requires
     loop-holds
     mul-record-level
