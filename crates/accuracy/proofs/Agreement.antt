@@ -1,5 +1,4 @@
 -- The relation between tally and day: the day is the one that the tally gives, and the tally keeps its bounds. A fresh day has it.
--- Assumes nothing.
 use mathlib.Core.Path.{_≡_, refl, sym}
 use mathlib.Core.Bool.{Bool, true, false}
 use mathlib.Core.List.{List, [], _∷_}

@@ -1,4 +1,4 @@
--- Demand 3 for offers and closings, over every list of calls, and the laws beside it. Assumes nothing.
+-- Demand 3 for offers and closings, over every list of calls, and the laws beside it.
 use mathlib.Core.Path.{_≡_, refl, sym, ap, subst, _∙_}
 use mathlib.Core.List.{List, [], _∷_}
 use Prim.Native.Nat.{ℕ, _≤_}

@@ -1,4 +1,4 @@
--- A closing: the day's counts and sums are the tally's, and its level has both bounds. Assumes nothing.
+-- A closing: the day's counts and sums are the tally's, and its level has both bounds.
 use mathlib.Core.Path.{_≡_, refl, sym, subst}
 use mathlib.Core.Bool.{Bool, true, false, _||_, cond}
 use Prim.Native.Nat.{ℕ, zero, suc, _+_, _*_, _<_}

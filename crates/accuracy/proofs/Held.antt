@@ -1,4 +1,4 @@
--- The stretches that a tally holds: an instant lies in one of them at the most, and their highest level. Assumes nothing.
+-- The stretches that a tally holds: an instant lies in one of them at the most, and their highest level.
 use mathlib.Core.Path.{_≡_, refl, ap, _∙_}
 use mathlib.Core.Bool.{_&&_}
 use mathlib.Core.List.{List, [], _∷_}

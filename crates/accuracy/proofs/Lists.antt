@@ -1,4 +1,4 @@
--- Laws on plain lists: a list in a number of places, a count that is raised, and the highest of a part of a list. Assumes nothing.
+-- Laws on plain lists: a list in a number of places, a count that is raised, and the highest of a part of a list.
 use mathlib.Core.Path.{_≡_, refl, ap}
 use mathlib.Core.List.{List, [], _∷_}
 use Prim.Native.Nat.{ℕ, zero, suc, _+_, _*_, _≤_, _<_, zero-le}

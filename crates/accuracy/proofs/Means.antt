@@ -1,37 +1,37 @@
--- Demand 3 for means: what the level of the days' levels says of the exact sum of all their samples. Assumes nothing.
-use mathlib.Core.Path.{_≡_, refl, sym, ap, subst, _∙_}
-use mathlib.Core.Bool.{Bool, true, false, cond, _||_}
+-- Demand 3 for means: what the level of the days' levels says of the exact sum of all their samples.
+use mathlib.Core.Path.{_≡_, refl, sym, ap, _∙_}
+use mathlib.Core.Bool.{Bool, true, false, cond}
 use mathlib.Core.List.{List, [], _∷_}
 use Prim.Native.Nat.{ℕ, zero, suc, _+_, _*_, _^_, _≤_, _<_, zero-le}
-use native.Mathlib.Nat.{add-zero, add-assoc, mul-le-mul-left, mul-le-mul-right, mul-lt-mul-of-pos-left, lt-of-not-le, not-le-of-lt}
+use native.Mathlib.Nat.{add-zero, add-assoc, mul-le-mul-right, mul-lt-mul-of-pos-left, lt-of-not-le, not-le-of-lt}
 use native.Mathlib.Omega.{arith}
 use borrow.Author.Tests.{le-ltb, ltb-false}
-use lib.Dec.{ltb, lit<, lit≤}
+use lib.Dec.{ltb, lit<}
 use lib.ListN.{length}
-use Rattle.quantity.specs.Answers.{Reading, level, below-scale, reading}
+use Rattle.quantity.specs.Answers.{Reading, level, below-scale}
 use Rattle.quantity.specs.Rules.{firstOf}
 use Rattle.quantity.proofs.Refusing.{skip, stop, end}
 use Rattle.quantity.proofs.Tests.{neither}
 use Rattle.power.specs.Power.{X, e, G}
 use Rattle.power.proofs.Scale.{e-mono, e-at, e-step, e-below-next-X, m-zero}
 use Rattle.level.specs.Level.{levelOf}
-use Rattle.level.specs.Accuracy.{Sample, weighted, Accurate, Reaches, IsBelow}
+use Rattle.level.specs.Accuracy.{weighted, Accurate, Reaches, IsBelow}
 use Rattle.level.proofs.Answer.{Answers, answers, said}
 use Rattle.level.proofs.Bounds.{exact-low, reaches}
 use Rattle.event.specs.Clock.{dayTicks}
 use Rattle.ledger.specs.Day.{freshDay}
 use Rattle.ledger.specs.Offer.{highestSample}
 use Rattle.ledger.specs.declared.Day.{Day}
-use Rattle.closing.specs.Close.{Counts, closeRules, nightWeight, methodTwoOffset, methodOneHolds, CloseResult, closed, closedOf, ldnOf, methodOf, ifCloses}
-use Rattle.mean.specs.Mean.{highestDay, isCountWrong, anyTooHigh, meanOf, meanRules, ifAllowed, mean}
+use Rattle.closing.specs.Close.{closeRules, nightWeight, methodTwoOffset, methodOneHolds, closed, closedOf, ldnOf, methodOf}
+use Rattle.mean.specs.Mean.{highestDay, isCountWrong, anyTooHigh, meanOf, meanRules, ifAllowed}
 use Rattle.mean.specs.Mean as means
-use Rattle.mean.specs.Records.{readings, DayReading, dayReading}
-use Rattle.accuracy.specs.Tally.{Tally, started, tallyOf, tallyCounts, heldSamples}
+use Rattle.mean.specs.Records.{readings, DayReading}
+use Rattle.accuracy.specs.Tally.{Tally, started, tallyOf, tallyCounts}
 use Rattle.accuracy.specs.Terminal.{dayOf}
 use Rattle.accuracy.specs.Laws.{periodEnergy}
 use Rattle.accuracy.specs.Means.{MeasuredDay, recordsOf, daySamples, samplesOf, MeanDemanded, MeanClaim, Demand3}
 use Rattle.accuracy.proofs.Sums.{weighted-held, weighted-append, heldEnergy}
-use Rattle.accuracy.proofs.Agreement.{Agrees, Bounded, dayFrom}
+use Rattle.accuracy.proofs.Agreement.{Agrees}
 use Rattle.accuracy.proofs.Closings.{tallyAnswer, closed-same}
 use Rattle.accuracy.proofs.Claim.{agree, claim}
 

@@ -1,7 +1,6 @@
 -- An offer: day and tally refuse it by the same number, or both take it in and agree again; and what is demanded of the answer.
--- Assumes nothing.
 use mathlib.Core.Path.{_≡_, refl, sym, ap, _∙_}
-use mathlib.Core.Bool.{Bool, true, false, cond}
+use mathlib.Core.Bool.{Bool, true, false}
 use mathlib.Core.List.{List, [], _∷_}
 use Prim.Native.Nat.{ℕ, zero, suc, _+_, _≤_, _<_}
 use native.Mathlib.Nat.{add-comm, zero-add, le-refl, le-trans, mul-le-mul-left}

@@ -1,4 +1,4 @@
--- The energies of the stretches that a tally holds: the weighted sum of their samples, and a bound under which no sum wraps. Assumes nothing.
+-- The energies of the stretches that a tally holds: the weighted sum of their samples, and a bound under which no sum wraps.
 use mathlib.Core.Path.{_≡_, sym, _∙_}
 use mathlib.Core.Bool.{Bool, true, false, cond}
 use mathlib.Core.List.{List, [], _∷_, _++_}

@@ -1,4 +1,4 @@
--- Tests that come to the same. Assumes nothing.
+-- Tests that come to the same.
 use mathlib.Core.Path.{_≡_, refl, sym}
 use mathlib.Core.Bool.{Bool, true, false, _||_, cond}
 use Prim.Native.Nat.{ℕ, _≤_}

@@ -1,4 +1,4 @@
--- What is known of the stretch of an offer that no rule refuses. Assumes nothing.
+-- What is known of the stretch of an offer that no rule refuses.
 use mathlib.Core.Path.{_≡_, refl, sym, ap, _∙_}
 use mathlib.Core.Bool.{Bool, false}
 use mathlib.Core.List.{List}

@@ -1,4 +1,4 @@
--- What closing answers, refused and not, and what is known where neither rule refuses. Assumes nothing.
+-- What closing answers, refused and not, and what is known where neither rule refuses.
 use mathlib.Core.Path.{_≡_, refl}
 use mathlib.Core.Bool.{true, _||_}
 use Prim.Native.Nat.{ℕ, zero, suc, _<_}

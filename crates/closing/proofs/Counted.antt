@@ -1,4 +1,4 @@
--- The totals of a day are its counts, and Ldn by the method that the counts choose. Assumes nothing.
+-- The totals of a day are its counts, and Ldn by the method that the counts choose.
 use mathlib.Core.Path.{_≡_, refl, ap, sym}
 use mathlib.Core.Bool.{Bool, true, false, _&&_, _||_, cond}
 use Prim.Native.Nat.{ℕ, _+_, _*_, _≤_}

@@ -1,4 +1,4 @@
--- Weighted energies have room in the limbs that hold them. Assumes nothing.
+-- Weighted energies have room in the limbs that hold them.
 use mathlib.Core.Path.{_≡_, ap, _∙_}
 use mathlib.Core.List.{List}
 use Prim.Native.Nat.{ℕ, suc, _+_, _*_, _^_, _≤_, _<_}

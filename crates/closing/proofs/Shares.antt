@@ -1,4 +1,4 @@
--- The condition on the shares, one class after the other from the last. Assumes nothing.
+-- The condition on the shares, one class after the other from the last.
 use mathlib.Core.Path.{_≡_, refl, sym, _∙_}
 use mathlib.Core.Bool.{true, false, _&&_}
 use Prim.Native.Nat.{ℕ, zero, suc, _*_, _-_, _≤_, _<_}

@@ -1,5 +1,5 @@
 -- Document 01, 'Day': closing, by method one (6-2) or method two (6-3, 6-4).
-use mathlib.Core.Bool.{Bool, true, false, _&&_, _||_, not, cond}
+use mathlib.Core.Bool.{Bool, true, _&&_, _||_, not, cond}
 use mathlib.Core.List.{List, [], _∷_}
 use mathlib.Core.Option.{Option}
 use Prim.Native.Nat.{ℕ, zero, suc, _+_, _-_, _*_}
@@ -7,13 +7,11 @@ use lib.Dec.{leb, ltb, eqb}
 use lib.ListN.{getD}
 use Rattle.quantity.specs.Answers.{Reading, reading, methodNumber, highestReading, refusalNumber}
 use Rattle.quantity.specs.Rules.{Rule, firstOf}
-use Rattle.quantity.specs.declared.HighestLevel.{HighestLevel}
 use Rattle.limbs.specs.Value.{value}
 use Rattle.level.specs.Level.{levelOf}
 use Rattle.event.specs.Clock.{samplesASecond, dayTicks}
 use Rattle.ledger.specs.Book.{mostClasses, sumOf}
 use Rattle.ledger.specs.declared.Day.{Day}
-use Rattle.closing.specs.declared.Closing.{Closing}
 use Rattle.closing.specs.declared.CloseAnswer.{CloseAnswer}
 use Rattle.closing.specs.declared.CloseAnswer.the-variants.{Closed, Refused}
 

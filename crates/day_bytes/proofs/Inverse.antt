@@ -1,4 +1,4 @@
--- The bytes of a day stand for that very day: each field is read where it was put. Assumes nothing.
+-- The bytes of a day stand for that very day: each field is read where it was put.
 use mathlib.Core.Path.{_≡_, refl, sym}
 use mathlib.Core.List.{List, [], _∷_, _++_, append-nil}
 use Prim.Native.Nat.{ℕ, _+_, _*_}

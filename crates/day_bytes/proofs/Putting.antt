@@ -1,4 +1,4 @@
--- Numbers that are put behind other bytes, one after the other, are these bytes and the bytes of the numbers; and a list by its elements. Assumes nothing.
+-- Numbers that are put behind other bytes, one after the other, are these bytes and the bytes of the numbers; and a list by its elements.
 use mathlib.Core.Path.{_≡_, refl, sym, ap, _∙_}
 use mathlib.Core.List.{List, [], _∷_, _++_, append-assoc, append-nil}
 use Prim.Native.Nat.{ℕ, zero, suc, _+_, _*_, _≤_, _<_}

@@ -1,4 +1,4 @@
--- Every day that calls reach fits into its bytes. Assumes nothing.
+-- Every day that calls reach fits into its bytes.
 use mathlib.Core.Bool.{Bool, true, false}
 use mathlib.Core.Path.{_≡_, refl, ap}
 use mathlib.Core.List.{List, [], _∷_}

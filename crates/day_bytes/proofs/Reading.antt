@@ -1,4 +1,4 @@
--- What is read where numbers stand: these very numbers. Assumes nothing.
+-- What is read where numbers stand: these very numbers.
 use mathlib.Core.Path.{_≡_, refl, sym, ap, ap₂, _∙_}
 use mathlib.Core.List.{List, [], _∷_, _++_, append-assoc}
 use Prim.Native.Nat.{ℕ, _+_, _*_, _%_, _/_}

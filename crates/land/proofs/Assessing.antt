@@ -1,4 +1,4 @@
--- The laws that the proofs of the verdict share. Assumes nothing.
+-- The laws that the proofs of the verdict share.
 use Prim.Native.Nat.{ℕ, zero, suc, _-_, _≤_}
 use mathlib.Core.Path.{_≡_, refl}
 use mathlib.Core.Bool.{Bool, true, false, cond, not, _&&_}

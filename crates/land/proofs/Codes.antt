@@ -1,4 +1,4 @@
--- The class of a code, from the letters and the digits that a branch of the code leaves: one computed test. Assumes nothing.
+-- The class of a code, from the letters and the digits that a branch of the code leaves: one computed test.
 use Prim.Native.Nat.{ℕ, zero, suc, _+_, _≤_, _<_}
 use mathlib.Core.Path.{_≡_, ap, sym, subst}
 use mathlib.Core.Bool.{Bool, true, false, _&&_, _||_}

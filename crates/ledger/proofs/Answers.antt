@@ -1,6 +1,6 @@
--- From the number of the first rule that refuses to the whole answer, and what holds where none does. Assumes nothing.
-use mathlib.Core.Path.{_≡_, refl, sym, ap, _∙_}
-use mathlib.Core.Bool.{Bool, true, false}
+-- From the number of the first rule that refuses to the whole answer, and what holds where none does.
+use mathlib.Core.Path.{_≡_, refl, ap}
+use mathlib.Core.Bool.{false}
 use mathlib.Core.List.{List}
 use Prim.Native.Nat.{ℕ, zero, suc, _+_, _≤_, _<_}
 use native.Mathlib.Omega.{arith}
@@ -20,26 +20,10 @@ use Rattle.event.specs.Window.{highest, countWrong}
 use Rattle.event.specs.Clock.{dayTicks, shortestWindow, longestWindow}
 use Rattle.event.specs.Event.{Located, locatedOf, Inside, Exposed}
 use Rattle.event.proofs.Runs.{highest-above}
-use Rattle.event.proofs.Whole.{any-above, Within, within}
+use Rattle.event.proofs.Whole.{any-above, within}
 use Rattle.ledger.specs.Book.{mostClasses, bookRules}
-use Rattle.ledger.specs.Day.{noDay, periodOf, OpenReading, ifOpens}
-use Rattle.ledger.specs.Offer.{
-  Conditions,
-  Offering,
-  Admissible,
-  OfferReading,
-  OfferResult,
-  accepted,
-  refused,
-  ifAdmitted,
-  admitted,
-  entered,
-  inDaytime,
-  dayChecks,
-  eventChecks,
-  isUnbooked,
-  highestSample,
-}
+use Rattle.ledger.specs.Day.{noDay, periodOf, ifOpens}
+use Rattle.ledger.specs.Offer.{Conditions, Offering, Admissible, OfferReading, accepted, refused, ifAdmitted, admitted, entered, inDaytime, dayChecks, eventChecks, highestSample}
 use Rattle.ledger.specs.declared.Day.{Day}
 
 -- a book that is refused leaves no day, an offer that is refused the same day

@@ -1,5 +1,4 @@
 -- levelOf is the largest level, and there is no other answer; a divisor may be divided out first, and an offset taken off afterwards.
--- Assumes nothing.
 use mathlib.Core.Path.{_≡_, refl, ap, subst}
 use mathlib.Core.Bool.{Bool, true, false, cond}
 use Prim.Native.Nat.{ℕ, _+_, _-_, _*_, _/_, _≤_, _<_, zero-le}

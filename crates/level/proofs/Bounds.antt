@@ -1,5 +1,4 @@
--- What a level says of the exact sum: both bounds of demand 3, for any weighted samples. Assumes nothing.
-use mathlib.Core.Path.{_≡_}
+-- What a level says of the exact sum: both bounds of demand 3, for any weighted samples.
 use mathlib.Core.List.{List, [], _∷_}
 use Prim.Native.Nat.{ℕ, _+_, _*_, _^_, _≤_, _<_}
 use native.Mathlib.Nat.{one-le-pow, mul-le-mul-left, mul-le-mul-right, mul-lt-mul-of-pos-right}

@@ -1,24 +1,11 @@
--- The leading digits of a number: one digit fewer, and the level that they show. Assumes nothing.
-use mathlib.Core.Path.{_≡_, sym, _∙_}
+-- The leading digits of a number: one digit fewer, and the level that they show.
+use mathlib.Core.Path.{_≡_, _∙_}
 use Prim.Native.Nat.{ℕ, suc, _+_, _-_, _*_, _/_, _^_, _≤_, _<_}
-use native.Mathlib.Nat.{
-  add-assoc,
-  add-zero,
-  one-mul,
-  pow-zero,
-  pow-suc,
-  one-le-pow,
-  div-one,
-  mul-div-cancel,
-  le-div-iff-mul-le,
-  div-lt-iff-lt-mul,
-  div-div-eq-div-mul,
-  lt-of-not-le,
-}
+use native.Mathlib.Nat.{add-assoc, add-zero, one-mul, pow-zero, pow-suc, one-le-pow, div-one, le-div-iff-mul-le, div-lt-iff-lt-mul, div-div-eq-div-mul, lt-of-not-le}
 use native.Mathlib.Numerals.{add-one}
 use native.Mathlib.Omega.{arith}
 use lib.Dec.{lit<, lit≤}
-use Rattle.quantity.specs.Answers.{Reading, level, below-scale}
+use Rattle.quantity.specs.Answers.{level, below-scale}
 use Rattle.power.specs.Power.{m, e, G}
 use Rattle.power.proofs.Scale.{e-zero, e-at, m-zero, m-thousand}
 use Rattle.level.specs.Level.{levelOf}

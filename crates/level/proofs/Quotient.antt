@@ -1,4 +1,4 @@
--- A quotient in limbs, cut by nine digits a turn until it fits 64 bits. Assumes nothing.
+-- A quotient in limbs, cut by nine digits a turn until it fits 64 bits.
 use mathlib.Core.Path.{_≡_, refl, ap, sym, _∙_}
 use mathlib.Core.List.{List}
 use Prim.Native.Nat.{ℕ, _+_, _*_, _/_, _%_, _^_, _≤_, _<_}
@@ -19,7 +19,6 @@ use native.Mathlib.Omega.{arith}
 use lib.Dec.{lit<, lit≤}
 use lib.ListN.{length}
 use lib.Pow.{pow-add}
-use Rattle.power.specs.Power.{G}
 use Rattle.limbs.specs.Value.{base, value, limbsOf}
 use Rattle.limbs.proofs.Digits.{value-limbsOf}
 use Rattle.level.specs.Leading.{Leads}

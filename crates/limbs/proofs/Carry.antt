@@ -1,4 +1,4 @@
--- A pass in place from the lowest limb up, with a carry: what `scale`, `add` and `load` have in common. Assumes nothing.
+-- A pass in place from the lowest limb up, with a carry: what `scale`, `add` and `load` have in common.
 use Prim.Native.Nat.{ℕ, _+_, _*_, _^_, _≤_, _<_}
 use mathlib.Core.Path.{_≡_, refl, ap, sym, _∙_}
 use mathlib.Core.List.{List}

@@ -1,4 +1,4 @@
--- The order of two runs of limbs of one length: the highest limb in which they differ decides. Assumes nothing.
+-- The order of two runs of limbs of one length: the highest limb in which they differ decides.
 use Prim.Native.Nat.{ℕ, _+_, _*_, _-_, _^_, _≤_, _<_}
 use mathlib.Core.Path.{_≡_, refl, sym, _∙_}
 use mathlib.Core.List.{List, []}

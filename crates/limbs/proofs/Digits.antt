@@ -1,4 +1,4 @@
--- The limbs of a number, and numbers that are kept in k limbs: what is known of a run of limbs exactly. Assumes nothing.
+-- The limbs of a number, and numbers that are kept in k limbs: what is known of a run of limbs exactly.
 use Prim.Native.Nat.{ℕ, suc, zero, _+_, _*_, _/_, _%_, _^_, _<_}
 use mathlib.Core.Path.{_≡_, refl, ap, ap₂, sym, _∙_}
 use mathlib.Core.List.{List, [], _∷_}

@@ -1,4 +1,4 @@
--- A pass in place from the top limb down, with a remainder: what `divide` does. Assumes nothing.
+-- A pass in place from the top limb down, with a remainder: what `divide` does.
 use Prim.Native.Nat.{ℕ, _+_, _*_, _-_, _/_, _≤_, _<_}
 use mathlib.Core.Path.{_≡_, refl, ap, sym, _∙_}
 use mathlib.Core.List.{List}

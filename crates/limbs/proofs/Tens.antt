@@ -1,4 +1,4 @@
--- Powers of ten: a table of them, and nine tens of a product. Assumes nothing.
+-- Powers of ten: a table of them, and nine tens of a product.
 use Prim.Native.Nat.{ℕ, suc, zero, _+_, _*_, _-_, _^_, _≤_, _<_}
 use mathlib.Core.Path.{_≡_, refl, ap, sym, _∙_}
 use mathlib.Core.List.{List, [], _∷_}

@@ -1,4 +1,4 @@
--- The number that a run of limbs is: of a part of the run, after a store, and its bounds. Assumes nothing.
+-- The number that a run of limbs is: of a part of the run, after a store, and its bounds.
 use Prim.Native.Nat.{ℕ, suc, zero, _+_, _*_, _-_, _%_, _^_, _≤_, _<_}
 use mathlib.Core.Path.{_≡_, refl, ap, _∙_}
 use mathlib.Core.List.{List, [], _∷_}

@@ -1,7 +1,7 @@
 // Natural numbers as runs of 32-bit limbs, least first, over slices of any length: what GMP's mpn layer does, by one proof for every length.
 // A clause `whole` gives the number, a clause `digits` the very limbs.
 ghost use mathlib.Core.Path.{_≡_};
-ghost use Prim.Native.Nat.{ℕ, _+_, _*_, _/_, _%_, _^_, _≤_, _<_};
+ghost use Prim.Native.Nat.{_+_, _*_, _/_, _%_, _^_, _≤_, _<_};
 ghost use lib.ListN.{length, getD};
 ghost use lib.Dec.{ltb};
 ghost use Rattle.limbs.specs.Value.{base, value, limbsOf};

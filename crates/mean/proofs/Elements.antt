@@ -1,4 +1,4 @@
--- What the walks over a run of records share: a record's machine value, and that an element's offset fits. Assumes nothing.
+-- What the walks over a run of records share: a record's machine value, and that an element's offset fits.
 use Prim.Native.Nat.{ℕ, _*_, _<_, _^_}
 use native.Mathlib.Omega.{arith}
 use mathlib.Core.Path.{_≡_, refl}

@@ -1,6 +1,5 @@
 -- A function that hands its slice on to `mean_over` with two numbers, for any two numbers: `week_mean` and `year_mean` are both of this form.
 -- The slice is Copy: what it owns is had twice, one copy goes to `mean_over`, at the slice's own lifetime, and one is kept for the exit.
--- Assumes nothing.
 use mathlib.Core.Path.{_≡_, refl}
 use Prim.Native.Nat.{ℕ, _≤_, _<_, _^_}
 use mathlib.Core.List.{List, [], _∷_}

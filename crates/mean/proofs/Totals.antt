@@ -1,15 +1,15 @@
--- The total of days of which none is too high is the very sum of their powers, and 366 days have room. Assumes nothing.
+-- The total of days of which none is too high is the very sum of their powers, and 366 days have room.
 use mathlib.Core.Path.{_≡_, refl, sym, ap, _∙_}
 use mathlib.Core.Bool.{Bool, true, false, _||_, cond}
 use mathlib.Core.List.{List, [], _∷_, _++_}
-use Prim.Native.Nat.{ℕ, zero, suc, _+_, _*_, _%_, _^_, _≤_, _<_, zero-le}
+use Prim.Native.Nat.{ℕ, zero, suc, _+_, _*_, _≤_, _<_, zero-le}
 use native.Mathlib.Nat.{add-zero, le-refl}
 use native.Mathlib.Numerals.{add-one}
 use native.Mathlib.Omega.{arith}
 use borrow.Author.Tests.{ltb-false, lt-ltb, le-ltb, leb-false, lt-leb, le-leb, eqb-true, ne-eqb}
 use borrow.Author.Needs.{needs}
-use lib.Dec.{ltb, leb, eqb}
-use lib.ListN.{length, take, getD, set, replicate, length-take}
+use lib.Dec.{ltb, eqb}
+use lib.ListN.{length, take, getD, set, length-take}
 use lib.Seq.{take-suc, take-length}
 use Rattle.quantity.specs.Answers.{Reading, level, below-scale, reading, refusalNumber, checkNumber}
 use Rattle.quantity.specs.Rules.{firstOf}
@@ -23,7 +23,7 @@ use Rattle.power.specs.Power.{e, G}
 use Rattle.decades.specs.Decades.{total, withPower, Added, Readable}
 use Rattle.decades.proofs.Turns.{with-power, zeros, fresh-total}
 use Rattle.level.specs.Level.{levelOf}
-use Rattle.mean.specs.Mean.{energyOf, sumOf, highestDay, isTooHigh, anyTooHigh, isCountWrong, meanRules, MeanResult, mean, refused, ifAllowed, meanOf}
+use Rattle.mean.specs.Mean.{energyOf, sumOf, highestDay, isTooHigh, anyTooHigh, isCountWrong, meanRules, mean, ifAllowed, meanOf}
 use Rattle.mean.specs.Records.{readings, blank, ReadResult, recordAt, found, dayReading, rewriteRules, rewriteNumber, ifWritten, rewritten}
 use Rattle.mean.specs.Records.{refused as missing}
 use Rattle.mean.specs.Total.{noDays, withDay, withRead, totalOf, daysCounted, closedOf}

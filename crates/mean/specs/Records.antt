@@ -1,15 +1,11 @@
 -- Document 01, 'Means (6-5, 6-6)' and 'Refused calls': the year as a run of day records, of which one is read or rewritten.
-use mathlib.Core.Bool.{Bool}
 use mathlib.Core.List.{List, [], _∷_}
 use Prim.Native.Nat.{ℕ, zero, suc}
 use lib.Dec.{leb}
 use lib.ListN.{length, getD, set}
-use Rattle.quantity.specs.Answers.{Reading, level, below-scale, reading, methodNumber, refusalNumber}
+use Rattle.quantity.specs.Answers.{Reading, level, reading, methodNumber, refusalNumber}
 use Rattle.quantity.specs.Rules.{Rule, firstOf}
-use Rattle.quantity.specs.declared.Level.{Level}
-use Rattle.quantity.specs.declared.LevelAnswer.{LevelAnswer}
 use Rattle.quantity.specs.declared.LevelAnswer.the-variants.{At}
-use Rattle.quantity.specs.declared.Method.{Method}
 use Rattle.quantity.specs.declared.Method.the-variants.{One}
 use Rattle.quantity.specs.declared.DayAnswer.{DayAnswer}
 use Rattle.mean.specs.Mean.{isTooHigh}

@@ -1,4 +1,4 @@
--- Laws of powers that the library lacks. Assumes nothing.
+-- Laws of powers that the library lacks.
 use mathlib.Core.Path.{_≡_}
 use Prim.Native.Nat.{ℕ, zero, suc, _*_, _^_, _<_}
 use native.Mathlib.Nat.{

@@ -1,24 +1,7 @@
 -- Cuts: two neighbouring numbers between which a power lies, said of thousandth powers, and how cuts compare and multiply.
--- Assumes nothing.
 use mathlib.Core.Path.{_≡_}
 use Prim.Native.Nat.{ℕ, _+_, _*_, _^_, _≤_, _<_}
-use native.Mathlib.Nat.{
-  mul-comm,
-  mul-mul-mul-comm,
-  one-le-pow,
-  lt-of-le-of-lt,
-  le-of-lt,
-  le-mul-of-pos-right,
-  mul-le-mul,
-  mul-le-mul-left,
-  mul-le-mul-right,
-  mul-lt-mul-of-pos-right,
-  mul-lt-mul-of-pos-left,
-  pow-suc,
-  pow-le-pow-right,
-  lt-of-lt-of-le,
-  le-trans,
-}
+use native.Mathlib.Nat.{mul-comm, mul-mul-mul-comm, one-le-pow, lt-of-le-of-lt, le-of-lt, le-mul-of-pos-right, mul-le-mul, mul-le-mul-left, mul-le-mul-right, mul-lt-mul-of-pos-right, mul-lt-mul-of-pos-left, pow-suc, pow-le-pow-right, lt-of-lt-of-le}
 use native.Mathlib.Omega.{arith}
 use lib.Dec.{lit<}
 use lib.Pow.{pow-add}

@@ -1,5 +1,4 @@
 -- How near e, which has ten digits, and X, which has K places, come to the power of ten that both stand for; and that e rises.
--- Assumes nothing.
 use mathlib.Core.Path.{_≡_, sym}
 use Prim.Native.Nat.{ℕ, zero, suc, _+_, _*_, _/_, _%_, _^_, _≤_, _<_}
 use native.Mathlib.Nat.{

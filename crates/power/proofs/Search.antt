@@ -1,4 +1,4 @@
--- The largest number that passes a test, and the whole root. Assumes nothing.
+-- The largest number that passes a test, and the whole root.
 use mathlib.Core.Path.{_≡_, refl}
 use mathlib.Core.Bool.{Bool, true, false, not}
 use Prim.Native.Nat.{ℕ, zero, suc, _+_, _^_, _≤_, _<_}

@@ -1,5 +1,5 @@
--- A rule of a table: a test that is computed at each entry, carried to every place of the table. Assumes nothing.
-use mathlib.Core.Path.{_≡_, subst, sym, _∙_}
+-- A rule of a table: a test that is computed at each entry, carried to every place of the table.
+use mathlib.Core.Path.{_≡_, subst, _∙_}
 use mathlib.Core.Bool.{Bool, true, false, _&&_}
 use mathlib.Core.List.{List, [], _∷_}
 use Prim.Native.Nat.{ℕ, zero, suc, _+_, _-_, _≤_, _<_}

@@ -1,4 +1,4 @@
--- A table of rules, one row after the other. Assumes nothing.
+-- A table of rules, one row after the other.
 use mathlib.Core.Path.{_≡_, refl, ap}
 use mathlib.Core.Bool.{Bool, true, false, cond}
 use mathlib.Core.List.{List, [], _∷_}

@@ -1,4 +1,4 @@
--- By cases on a test, and what tests say that are joined by 'or' and 'and'. Assumes nothing.
+-- By cases on a test, and what tests say that are joined by 'or' and 'and'.
 use mathlib.Core.Path.{_≡_, refl, sym}
 use mathlib.Core.Bool.{Bool, true, false, _&&_, _||_, true≢false}
 

@@ -1,4 +1,4 @@
--- A number in its fewest digits is the number in decimal, without leading zeros. Assumes nothing.
+-- A number in its fewest digits is the number in decimal, without leading zeros.
 use mathlib.Core.Path.{_≡_}
 use Prim.Native.Nat.{ℕ, zero, suc, _*_, _-_, _/_, _%_, _^_, _≤_, _<_}
 use native.Mathlib.Nat.{mod-eq-of-lt, pow-suc, one-le-pow, pow-le-pow-right, lt-of-not-le, le-of-suc-le-suc}

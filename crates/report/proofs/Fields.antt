@@ -1,4 +1,4 @@
--- Fields that are put behind a text, one after the other, are the text and the fields. Assumes nothing.
+-- Fields that are put behind a text, one after the other, are the text and the fields.
 use mathlib.Core.Path.{_≡_, sym, ap, _∙_}
 use mathlib.Core.List.{List, [], _∷_, _++_, append-assoc, append-nil}
 use Prim.Native.Nat.{ℕ}

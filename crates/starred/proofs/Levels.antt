@@ -1,5 +1,5 @@
 -- Mantissas, powers and levels of given numbers. A level is read off by computed tests: whether M * e(c) ≤ S is a comparison of thousandth
--- powers, in which no mantissa stands. Assumes nothing.
+-- powers, in which no mantissa stands.
 use mathlib.Core.Path.{_≡_, sym}
 use mathlib.Core.Bool.{Bool, _&&_, not}
 use Prim.Native.Nat.{ℕ, _+_, _*_, _/_, _%_, _^_, _≤_, _<_}

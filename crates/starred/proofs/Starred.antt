@@ -1,5 +1,4 @@
 -- The starred cases, shown row by row: the powers in a row are rewritten to numbers, and the level is read off. The other rows compute.
--- Assumes nothing.
 use mathlib.Core.Path.{_≡_, refl, ap}
 use mathlib.Core.Option.{Option}
 use Prim.Native.Nat.{ℕ}

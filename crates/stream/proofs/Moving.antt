@@ -1,5 +1,4 @@
 -- A run of bytes whose part from a place on is moved to its beginning, byte by byte: what holds on the way, and that one byte more keeps it.
--- Assumes nothing.
 use mathlib.Core.Path.{_≡_, refl, sym, _∙_}
 use mathlib.Core.List.{List, _∷_}
 use Prim.Native.Nat.{ℕ, suc, _+_, _<_}

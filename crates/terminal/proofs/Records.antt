@@ -1,4 +1,4 @@
--- The levels of a run of records, and the total of the first of them. Assumes nothing.
+-- The levels of a run of records, and the total of the first of them.
 use mathlib.Core.Path.{_≡_, refl, ap, _∙_}
 use mathlib.Core.List.{List, [], _∷_}
 use Prim.Native.Nat.{ℕ, zero, suc, _+_, _≤_, _<_}

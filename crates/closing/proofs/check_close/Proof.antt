@@ -1,4 +1,4 @@
--- `closing::check_close` meets its contract: rule 11, then rule 12. Assumes nothing.
+-- `closing::check_close` meets its contract: rule 11, then rule 12.
 use mathlib.Core.Path.{_≡_, ap, sym, _∙_}
 use mathlib.Core.Bool.{not, false}
 use lib.Dec.{ltb}
@@ -13,20 +13,8 @@ use Rattle.closing.proofs.check_close.Tie as tie
 steady : (c : tie.Else1) → let a = c .before .before .before .before .args in ltb 50 (distance (a .before .0) (a .after .0)) ≡ false
 steady c = le-ltb _ _ (rw (c .before .distance-between .ensures) at (c .if1 .left))
 
-cast-distance-between : tie.Need-cast-distance-between
-cast-distance-between c = search needs
-
-cast-distance-between-2 : tie.Need-cast-distance-between-2
-cast-distance-between-2 c = search needs
-
-distance-between-requires : tie.Need-distance-between-requires
-distance-between-requires c κs = search needs
-
 returns : tie.Need-returns
 returns c = sym (stop _ _ (lt-ltb _ _ (rw (c .before .distance-between .ensures) at (c .if1 .taken))))
-
-has-method-requires : tie.Need-has-method-requires
-has-method-requires c κs = search needs
 
 returns-2 : tie.Need-returns-2
 returns-2 c = sym (skip _ _ (steady (c .before .before)) ∙ stop _ _ (ap not (sym (c .before .has-method .ensures)) ∙ c .if2 .taken))
@@ -38,10 +26,10 @@ pub check-close-spec : {M : Type 1} → statement M
 check-close-spec =
     tie.close
     (tie.spec
-    cast-distance-between
-    cast-distance-between-2
-    distance-between-requires
+    (λ c. search needs)
+    (λ c. search needs)
+    (λ c κs. search needs)
     returns
-    has-method-requires
+    (λ c κs. search needs)
     returns-2
     returns-3)

@@ -1,24 +1,9 @@
--- `closing::class_holds` meets its contract. Assumes nothing.
+-- `closing::class_holds` meets its contract.
 use mathlib.Core.Path.{refl, _∙_}
 use Rattle.closing.proofs.Counted.{flights-counted, events-counted}
 use borrow.Author.Needs.{needs}
 use Rattle.closing.proofs.class_holds.Statement.{statement}
 use Rattle.closing.proofs.class_holds.Tie as tie
-
-class-count-requires : tie.Need-class-count-requires
-class-count-requires c κs = search needs
-
-class-count-requires-2 : tie.Need-class-count-requires-2
-class-count-requires-2 c κs = search needs
-
-both-requires : tie.Need-both-requires
-both-requires c κs = search needs
-
-both-requires-2 : tie.Need-both-requires-2
-both-requires-2 c κs = search needs
-
-share-holds-requires : tie.Need-share-holds-requires
-share-holds-requires c κs = search needs
 
 returns : tie.Need-returns
 returns c =
@@ -34,9 +19,9 @@ pub class-holds-spec : {M : Type 1} → statement M
 class-holds-spec =
     tie.close
     (tie.spec
-    class-count-requires
-    class-count-requires-2
-    both-requires
-    both-requires-2
-    share-holds-requires
+    (λ c κs. search needs)
+    (λ c κs. search needs)
+    (λ c κs. search needs)
+    (λ c κs. search needs)
+    (λ c κs. search needs)
     returns)

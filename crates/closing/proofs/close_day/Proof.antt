@@ -1,4 +1,4 @@
--- `closing::close_day` meets its contract: the refusal, or Ldn by the method that the counts choose. Assumes nothing.
+-- `closing::close_day` meets its contract: the refusal, or Ldn by the method that the counts choose.
 use mathlib.Core.Path.{sym, ap, _∙_}
 use Rattle.quantity.specs.Answers.{refusalNumber, checkNumber}
 use Rattle.closing.specs.Close.{countsOf}
@@ -8,24 +8,12 @@ use borrow.Author.Needs.{needs}
 use Rattle.closing.proofs.close_day.Statement.{statement}
 use Rattle.closing.proofs.close_day.Tie as tie
 
-totals-of-requires : tie.Need-totals-of-requires
-totals-of-requires c κs = search needs
-
-check-close-requires : tie.Need-check-close-requires
-check-close-requires c κs = search needs
-
-enum-known-check : tie.Need-enum-known-check
-enum-known-check c = search needs
-
 returns : tie.Need-returns
 returns c =
     let k = c .before .before .before in
     let r = c .before .check .given .0 .0 in
     let n = sym (k .check-close .ensures) ∙ ap checkNumber (c .before .check .given .1) in
     rw n (refused-with (refusalNumber r) _ (refusal-positive r))
-
-enum-told : tie.Need-enum-told
-enum-told c = search needs
 
 day-answer-requires : tie.Need-day-answer-requires
 day-answer-requires c κs =
@@ -44,10 +32,10 @@ pub close-day-spec : {M : Type 1} → statement M
 close-day-spec =
     tie.close
     (tie.spec
-    totals-of-requires
-    check-close-requires
-    enum-known-check
+    (λ c κs. search needs)
+    (λ c κs. search needs)
+    (λ c. search needs)
     returns
-    enum-told
+    (λ c. search needs)
     day-answer-requires
     returns-2)

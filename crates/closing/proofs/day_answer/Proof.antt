@@ -1,4 +1,4 @@
--- `closing::day_answer` meets its contract. Assumes nothing.
+-- `closing::day_answer` meets its contract.
 use mathlib.Core.Path.{_≡_, sym, _∙_}
 use mathlib.Core.Bool.{Bool}
 use native.Mathlib.Omega.{arith}
@@ -12,32 +12,11 @@ use Rattle.closing.proofs.day_answer.Tie as tie
 known : (c : tie.After-method-one-holds) {one : Bool} → c .method-one-holds .result ≡ one → methodOneHolds (countsOf (c .before .args .day)) ≡ one
 known c h = sym (c .method-one-holds .ensures _ (c .before .pre .0)) ∙ h
 
-method-one-holds-requires : tie.Need-method-one-holds-requires
-method-one-holds-requires c κs = search needs
-
-ldn-requires : tie.Need-ldn-requires
-ldn-requires c κs = search needs
-
 returns : tie.Need-returns
 returns c =
     let n = countsOf (c .before .before .before .args .day) in
     let one = known (c .before .before) (c .before .if1 .taken) in
     (c .ldn .ensures ∙ ldn-chosen n one _ _, method-chosen n one)
-
-mul-weight : tie.Need-mul-weight
-mul-weight c = search needs
-
-add-weight : tie.Need-add-weight
-add-weight c = search needs
-
-cast-divisor : tie.Need-cast-divisor
-cast-divisor c = search needs
-
-add-divisor : tie.Need-add-divisor
-add-divisor c = search needs
-
-mul-divisor : tie.Need-mul-divisor
-mul-divisor c = search needs
 
 ldn-requires-2 : tie.Need-ldn-requires-2
 ldn-requires-2 c κs =
@@ -57,13 +36,13 @@ pub day-answer-spec : {M : Type 1} → statement M
 day-answer-spec =
     tie.close
     (tie.spec
-    method-one-holds-requires
-    ldn-requires
+    (λ c κs. search needs)
+    (λ c κs. search needs)
     returns
-    mul-weight
-    add-weight
-    cast-divisor
-    add-divisor
-    mul-divisor
+    (λ c. search needs)
+    (λ c. search needs)
+    (λ c. search needs)
+    (λ c. search needs)
+    (λ c. search needs)
     ldn-requires-2
     returns-2)

@@ -1,14 +1,8 @@
--- `closing::has_method` meets its contract. Assumes nothing.
+-- `closing::has_method` meets its contract.
 use mathlib.Core.Path.{sym, _∙_}
 use borrow.Author.Needs.{needs}
 use Rattle.closing.proofs.has_method.Statement.{statement}
 use Rattle.closing.proofs.has_method.Tie as tie
-
-method-one-holds-requires : tie.Need-method-one-holds-requires
-method-one-holds-requires c κs = search needs
-
-method-two-holds-requires : tie.Need-method-two-holds-requires
-method-two-holds-requires c κs = search needs
 
 returns : tie.Need-returns
 returns c = rw (sym (c .before .method-one-holds .ensures _ (c .before .before .pre)) ∙ c .if1 .taken) (c .if1 .taken)
@@ -18,4 +12,4 @@ returns-2 c = rw (sym (c .before .before .method-one-holds .ensures _ (c .before
 
 pub has-method-spec : {M : Type 1} → statement M
 has-method-spec =
-    tie.close (tie.spec method-one-holds-requires method-two-holds-requires returns returns-2)
+    tie.close (tie.spec (λ c κs. search needs) (λ c κs. search needs) returns returns-2)

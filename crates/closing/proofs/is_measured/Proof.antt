@@ -1,4 +1,4 @@
--- `closing::is_measured` meets its contract. Assumes nothing.
+-- `closing::is_measured` meets its contract.
 use borrow.Author.Tests.{eq-eqb, ne-eqb}
 use Rattle.closing.proofs.is_measured.Statement.{statement}
 use Rattle.closing.proofs.is_measured.Tie as tie

@@ -1,15 +1,9 @@
--- `closing::method_one_holds` meets its contract. Assumes nothing.
+-- `closing::method_one_holds` meets its contract.
 use mathlib.Core.Path.{sym, _∙_}
 use Rattle.closing.proofs.Counted.{method-one-counted}
 use borrow.Author.Needs.{needs}
 use Rattle.closing.proofs.method_one_holds.Statement.{statement}
 use Rattle.closing.proofs.method_one_holds.Tie as tie
-
-few-missing-requires : tie.Need-few-missing-requires
-few-missing-requires c κs = search needs
-
-few-missing-requires-2 : tie.Need-few-missing-requires-2
-few-missing-requires-2 c κs = search needs
 
 returns : tie.Need-returns
 returns c = λ day p.
@@ -20,4 +14,4 @@ returns-2 c = λ day p. rw (← method-one-counted p, sym (c .before .few-missin
 
 pub method-one-holds-spec : {M : Type 1} → statement M
 method-one-holds-spec =
-    tie.close (tie.spec few-missing-requires few-missing-requires-2 returns returns-2)
+    tie.close (tie.spec (λ c κs. search needs) (λ c κs. search needs) returns returns-2)

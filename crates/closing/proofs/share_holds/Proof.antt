@@ -1,25 +1,10 @@
--- `closing::share_holds` meets its contract. Assumes nothing.
+-- `closing::share_holds` meets its contract.
 use mathlib.Core.Path.{sym, _∙_}
 use native.Mathlib.Omega.{arith}
 use Rattle.closing.proofs.Shares.{product-small}
 use borrow.Author.Needs.{needs}
 use Rattle.closing.proofs.share_holds.Statement.{statement}
 use Rattle.closing.proofs.share_holds.Tie as tie
-
-cast-flights : tie.Need-cast-flights
-cast-flights c = search needs
-
-cast-events : tie.Need-cast-events
-cast-events c = search needs
-
-cast-all-flights : tie.Need-cast-all-flights
-cast-all-flights c = search needs
-
-cast-all-events : tie.Need-cast-all-events
-cast-all-events c = search needs
-
-is-measured-requires : tie.Need-is-measured-requires
-is-measured-requires c κs = search needs
 
 mul-distance-between : tie.Need-mul-distance-between
 mul-distance-between c =
@@ -30,9 +15,6 @@ mul-distance-between-2 : tie.Need-mul-distance-between-2
 mul-distance-between-2 c =
     let a = c .before .before .before .before .before .before .args in
     omega (arith, product-small (a .class .flights) (a .all .events) (search needs) (search needs))
-
-distance-between-requires : tie.Need-distance-between-requires
-distance-between-requires c κs = search needs
 
 mul-result : tie.Need-mul-result
 mul-result c =
@@ -54,14 +36,14 @@ pub share-holds-spec : {M : Type 1} → statement M
 share-holds-spec =
     tie.close
     (tie.spec
-    cast-flights
-    cast-events
-    cast-all-flights
-    cast-all-events
-    is-measured-requires
+    (λ c. search needs)
+    (λ c. search needs)
+    (λ c. search needs)
+    (λ c. search needs)
+    (λ c κs. search needs)
     mul-distance-between
     mul-distance-between-2
-    distance-between-requires
+    (λ c κs. search needs)
     mul-result
     mul-result-2
     returns

@@ -1,4 +1,4 @@
--- `closing::shares_hold` meets its contract. Assumes nothing.
+-- `closing::shares_hold` meets its contract.
 use mathlib.Core.Path.{sym, _∙_}
 use borrow.Author.Needs.{needs}
 use borrow.Author.Tests.{not-true, not-false}
@@ -16,17 +16,11 @@ abbrev μ-loop : tie.MeasureT-loop
 loop-holds : tie.Need-loop-holds Inv-loop μ-loop
 loop-holds c = shares-start _
 
-sub-class : tie.Need-sub-class Inv-loop μ-loop
-sub-class c = search needs
-
 class-holds-requires : tie.Need-class-holds-requires Inv-loop μ-loop
 class-holds-requires c κs = (c .before .before .pre, search needs)
 
 returns : tie.Need-returns Inv-loop μ-loop
 returns c = shares-fail (c .before .before .before .loop .inv) (c .before .before .loop-test .taken) (sym (c .before .class-holds .ensures) ∙ not-true _ (c .if1 .taken))
-
-loop-less : tie.Need-loop-less Inv-loop μ-loop
-loop-less c = search needs
 
 loop-again : tie.Need-loop-again Inv-loop μ-loop
 loop-again c = shares-pass (c .before .before .before .loop .inv) (c .before .before .loop-test .taken) (sym (c .before .class-holds .ensures) ∙ not-false _ (c .if1 .left))
@@ -41,9 +35,9 @@ shares-hold-spec =
     Inv-loop
     μ-loop
     loop-holds
-    sub-class
+    (λ c. search needs)
     class-holds-requires
     returns
-    loop-less
+    (λ c. search needs)
     loop-again
     returns-2)

@@ -1,23 +1,8 @@
--- `closing::weighted` meets its contract. Assumes nothing.
+-- `closing::weighted` meets its contract.
 use Rattle.closing.proofs.Energy.{product-kept}
 use borrow.Author.Needs.{needs}
 use Rattle.closing.proofs.weighted.Statement.{statement}
 use Rattle.closing.proofs.weighted.Tie as tie
-
-slice-aggregate-load : tie.Need-slice-aggregate-load
-slice-aggregate-load c = search needs
-
-slice-aggregate-load-2 : tie.Need-slice-aggregate-load-2
-slice-aggregate-load-2 c = search needs
-
-load-requires : tie.Need-load-requires
-load-requires c κs = search needs
-
-slice-aggregate-scale : tie.Need-slice-aggregate-scale
-slice-aggregate-scale c = search needs
-
-scale-requires : tie.Need-scale-requires
-scale-requires c κs = search needs
 
 returns : tie.Need-returns
 returns c =
@@ -28,9 +13,9 @@ pub weighted-spec : {M : Type 1} → statement M
 weighted-spec =
     tie.close
     (tie.spec
-    slice-aggregate-load
-    slice-aggregate-load-2
-    load-requires
-    slice-aggregate-scale
-    scale-requires
+    (λ c. search needs)
+    (λ c. search needs)
+    (λ c κs. search needs)
+    (λ c. search needs)
+    (λ c κs. search needs)
     returns)

@@ -1,4 +1,4 @@
--- `day::run` is safe and ends: what is not used up yet lies in what is held, and each turn brings the reader nearer to its end. Assumes nothing.
+-- `day::run` is safe and ends: what is not used up yet lies in what is held, and each turn brings the reader nearer to its end.
 use mathlib.Core.Path.{_≡_, sym, ap, _∙_}
 use Prim.Native.Nat.{_-_, _≤_}
 use native.Mathlib.Omega.{arith}
@@ -19,21 +19,6 @@ Inv-loop held₀ size turn₀ held turn =
 
 abbrev μ-loop : tie.MeasureT-loop
 μ-loop held₀ size turn₀ held turn = stepsLeft (stateOf (turn .reader))
-
-fresh-requires : tie.Need-fresh-requires Inv-loop μ-loop
-fresh-requires c κs = search needs
-
-loop-holds : tie.Need-loop-holds Inv-loop μ-loop
-loop-holds c = search needs
-
-is-over-requires : tie.Need-is-over-requires Inv-loop μ-loop
-is-over-requires c κs = search needs
-
-take-turn-requires : tie.Need-take-turn-requires Inv-loop μ-loop
-take-turn-requires c κs = search needs
-
-write-line-requires : tie.Need-write-line-requires Inv-loop μ-loop
-write-line-requires c κs = search needs
 
 loop-less : tie.Need-loop-less Inv-loop μ-loop
 loop-less c =
@@ -58,24 +43,18 @@ loop-again c =
     let p = k .take-turn .ensures in
     (p .used .1, p .inside .1, p .whole ∙ k .before .before .before .before .loop .inv .2)
 
-same-length : tie.Need-same-length Inv-loop μ-loop
-same-length c = search needs
-
-returns : tie.Need-returns Inv-loop μ-loop
-returns c = search needs
-
 pub run-spec : {M : Type 1} → statement M
 run-spec =
     tie.close
     (tie.spec
     Inv-loop
     μ-loop
-    fresh-requires
-    loop-holds
-    is-over-requires
-    take-turn-requires
-    write-line-requires
+    (λ c κs. search needs)
+    (λ c. search needs)
+    (λ c κs. search needs)
+    (λ c κs. search needs)
+    (λ c κs. search needs)
     loop-less
     loop-again
-    same-length
-    returns)
+    (λ c. search needs)
+    (λ c. search needs))

@@ -1,4 +1,4 @@
--- `day::take_turn` meets its contract: a step on what was made ready. Assumes nothing.
+-- `day::take_turn` meets its contract: a step on what was made ready.
 use mathlib.Core.Path.{_≡_, ap, _∙_}
 use mathlib.Core.List.{List}
 use Prim.Native.Nat.{ℕ, _+_, _-_, _≤_}
@@ -31,31 +31,10 @@ within c =
       used-law (stateOf (k .before .before .before .before .before .args .last .reader)) (window c) (r .result .ended),
     )
 
-longest-need-requires : tie.Need-longest-need-requires
-longest-need-requires c κs = search needs
-
-ready-requires : tie.Need-ready-requires
-ready-requires c κs = search needs
-
-sub-step : tie.Need-sub-step
-sub-step c = search needs
-
-part-step-start : tie.Need-part-step-start
-part-step-start c = search needs
-
-part-step-end : tie.Need-part-step-end
-part-step-end c = search needs
-
-step-requires : tie.Need-step-requires
-step-requires c κs = search needs
-
 add-t14 : tie.Need-add-t14
 add-t14 c =
     let k = c .before .before in
     omega (arith, within k, k .before .before .before .before .before .ready .ok)
-
-same-length : tie.Need-same-length
-same-length c = search needs
 
 returns : tie.Need-returns
 returns c =
@@ -77,12 +56,12 @@ pub take-turn-spec : {M : Type 1} → statement M
 take-turn-spec =
     tie.close
     (tie.spec
-    longest-need-requires
-    ready-requires
-    sub-step
-    part-step-start
-    part-step-end
-    step-requires
+    (λ c κs. search needs)
+    (λ c κs. search needs)
+    (λ c. search needs)
+    (λ c. search needs)
+    (λ c. search needs)
+    (λ c κs. search needs)
     add-t14
-    same-length
+    (λ c. search needs)
     returns)

@@ -1,4 +1,4 @@
--- `day_bytes::encode` meets its contract: the two periods and the rest fill the 172 bytes. Assumes nothing.
+-- `day_bytes::encode` meets its contract: the two periods and the rest fill the 172 bytes.
 use mathlib.Core.Path.{sym, _∙_}
 use mathlib.Core.List.{[]}
 use Prim.Native.Nat.{_≤_}
@@ -11,20 +11,8 @@ use Rattle.day_bytes.proofs.Putting.{joined}
 use Rattle.day_bytes.proofs.encode.Statement.{statement}
 use Rattle.day_bytes.proofs.encode.Tie as tie
 
-rest-of-requires : tie.Need-rest-of-requires
-rest-of-requires c κs = search needs
-
-put-period-requires : tie.Need-put-period-requires
-put-period-requires c κs = search needs
-
-put-period-requires-2 : tie.Need-put-period-requires-2
-put-period-requires-2 c κs = search needs
-
 slice-aggregate-put-numbers : tie.Need-slice-aggregate-put-numbers
 slice-aggregate-put-numbers c = search needs
-
-put-numbers-requires : tie.Need-put-numbers-requires
-put-numbers-requires c κs = search needs
 
 returns : tie.Need-returns
 unfolding dayBytes
@@ -42,9 +30,9 @@ pub encode-spec : {M : Type 1} → statement M
 encode-spec =
     tie.close
     (tie.spec
-    rest-of-requires
-    put-period-requires
-    put-period-requires-2
+    (λ c κs. search needs)
+    (λ c κs. search needs)
+    (λ c κs. search needs)
     slice-aggregate-put-numbers
-    put-numbers-requires
+    (λ c κs. search needs)
     returns)

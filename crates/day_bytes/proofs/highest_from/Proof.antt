@@ -1,4 +1,4 @@
--- `day_bytes::highest_from` meets its contract: 0 stands for no level. Assumes nothing.
+-- `day_bytes::highest_from` meets its contract: 0 stands for no level.
 use borrow.Author.Tests.{eq-eqb, ne-eqb}
 use Rattle.day_bytes.proofs.highest_from.Statement.{statement}
 use Rattle.day_bytes.proofs.highest_from.Tie as tie

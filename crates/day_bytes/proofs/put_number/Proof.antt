@@ -1,4 +1,4 @@
--- `day_bytes::put_number` meets its contract: one byte, and the other behind it. Assumes nothing.
+-- `day_bytes::put_number` meets its contract: one byte, and the other behind it.
 use mathlib.Core.Path.{refl}
 use Prim.Native.Nat.{_/_, _%_}
 use native.Mathlib.Omega.{arith}
@@ -9,26 +9,8 @@ use Rattle.day_bytes.proofs.Putting.{two-put}
 use Rattle.day_bytes.proofs.put_number.Statement.{statement}
 use Rattle.day_bytes.proofs.put_number.Tie as tie
 
-cast-bytes : tie.Need-cast-bytes
-cast-bytes c = search needs
-
-slice-write-bytes : tie.Need-slice-write-bytes
-slice-write-bytes c = search needs
-
-cast-bytes-2 : tie.Need-cast-bytes-2
-cast-bytes-2 c = search needs
-
-add-bytes : tie.Need-add-bytes
-add-bytes c = search needs
-
 slice-write-bytes-2 : tie.Need-slice-write-bytes-2
 slice-write-bytes-2 c = rw length-set (omega arith)
-
-add-result : tie.Need-add-result
-add-result c = search needs
-
-same-length : tie.Need-same-length
-same-length c = search needs
 
 returns : tie.Need-returns
 unfolding bytesOf
@@ -38,11 +20,11 @@ pub put-number-spec : {M : Type 1} → statement M
 put-number-spec =
     tie.close
     (tie.spec
-    cast-bytes
-    slice-write-bytes
-    cast-bytes-2
-    add-bytes
+    (λ c. search needs)
+    (λ c. search needs)
+    (λ c. search needs)
+    (λ c. search needs)
     slice-write-bytes-2
-    add-result
-    same-length
+    (λ c. search needs)
+    (λ c. search needs)
     returns)

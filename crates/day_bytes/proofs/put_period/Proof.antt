@@ -1,4 +1,4 @@
--- `day_bytes::put_period` meets its contract: the flights of the book, the accepted events and the halves of the sum, one behind the other. Assumes nothing.
+-- `day_bytes::put_period` meets its contract: the flights of the book, the accepted events and the halves of the sum, one behind the other.
 use native.Mathlib.Omega.{arith}
 use borrow.Author.Needs.{needs}
 use lib.ListN.{take}
@@ -6,9 +6,6 @@ use Rattle.day_bytes.specs.Bytes.{halvesOf}
 use Rattle.day_bytes.proofs.Putting.{joined}
 use Rattle.day_bytes.proofs.put_period.Statement.{statement}
 use Rattle.day_bytes.proofs.put_period.Tie as tie
-
-halves-of-requires : tie.Need-halves-of-requires
-halves-of-requires c κs = search needs
 
 slice-aggregate-put-numbers : tie.Need-slice-aggregate-put-numbers
 slice-aggregate-put-numbers c = search needs
@@ -45,7 +42,7 @@ pub put-period-spec : {M : Type 1} → statement M
 put-period-spec =
     tie.close
     (tie.spec
-    halves-of-requires
+    (λ c κs. search needs)
     slice-aggregate-put-numbers
     put-numbers-requires
     slice-aggregate-put-numbers-2

@@ -1,4 +1,4 @@
--- `file_cases::read_file` meets its contract. Assumes nothing.
+-- `file_cases::read_file` meets its contract.
 use mathlib.Core.Path.{sym}
 use native.Mathlib.Omega.{arith}
 use lib.ListN.{length-append}
@@ -7,17 +7,8 @@ use borrow.Author.Needs.{needs}
 use Rattle.file_cases.proofs.read_file.Statement.{statement}
 use Rattle.file_cases.proofs.read_file.Tie as tie
 
-slice-relend-prefix-read-full : tie.Need-slice-relend-prefix-read-full
-slice-relend-prefix-read-full c = search needs
-
 slice-aggregate-read-full : tie.Need-slice-aggregate-read-full
 slice-aggregate-read-full c = sym (length-take-le _ _ (search needs))
-
-read-full-requires : tie.Need-read-full-requires
-read-full-requires c κs = search needs
-
-same-length : tie.Need-same-length
-same-length c = search needs
 
 returns : tie.Need-returns
 returns c = rw length-append (omega (arith, c .before .before .read-full .ensures .0))
@@ -26,8 +17,8 @@ pub read-file-spec : {M : Type 1} → statement M
 read-file-spec =
     tie.close
     (tie.spec
-    slice-relend-prefix-read-full
+    (λ c. search needs)
     slice-aggregate-read-full
-    read-full-requires
-    same-length
+    (λ c κs. search needs)
+    (λ c. search needs)
     returns)

@@ -1,4 +1,4 @@
--- `land::assess` meets its contract: the rows are passed over or decide in their order, and what no row refuses is as the definition has it. Assumes nothing.
+-- `land::assess` meets its contract: the rows are passed over or decide in their order, and what no row refuses is as the definition has it.
 use mathlib.Core.List.{List}
 use mathlib.Core.Path.{_≡_, sym, _∙_}
 use lib.ListN.{drop}
@@ -25,29 +25,14 @@ past-14 c = past-15 (c .before .before) ∙ skip _ _ (sym (c .before .yearly-exc
 past-4 : (c : tie.Else2) → firstOf (rows (c .before .before .before .before)) ≡ 0
 past-4 c = past-14 (c .before .before) ∙ skip _ _ (sym (c .before .highest-exceeds .ensures) ∙ c .if2 .left) ∙ end
 
-yearly-exceeds-requires : tie.Need-yearly-exceeds-requires
-yearly-exceeds-requires c κs = search needs
-
 returns : tie.Need-returns
 returns c = rw (past-15 (c .before .before) ∙ stop _ _ (sym (c .before .yearly-exceeds .ensures) ∙ c .if1 .taken))
-
-highest-exceeds-requires : tie.Need-highest-exceeds-requires
-highest-exceeds-requires c κs = search needs
 
 returns-2 : tie.Need-returns-2
 returns-2 c = rw (past-14 (c .before .before) ∙ stop _ _ (sym (c .before .highest-exceeds .ensures) ∙ c .if2 .taken))
 
-limit-of-requires : tie.Need-limit-of-requires
-limit-of-requires c κs = search needs
-
 margin-of-requires : tie.Need-margin-of-requires
 margin-of-requires c κs = (rw (c .limit-of .ensures) (limit-low (c .before .before .before .before .before .args .class)), sym (c .before .before .before .before .yearly-exceeds .ensures) ∙ c .before .before .before .if1 .left)
-
-over-maximum-requires : tie.Need-over-maximum-requires
-over-maximum-requires c κs = search needs
-
-finding-of-requires : tie.Need-finding-of-requires
-finding-of-requires c κs = search needs
 
 returns-3 : tie.Need-returns-3
 returns-3 c =
@@ -63,12 +48,12 @@ pub assess-spec : {M : Type 1} → statement M
 assess-spec =
     tie.close
     (tie.spec
-    yearly-exceeds-requires
+    (λ c κs. search needs)
     returns
-    highest-exceeds-requires
+    (λ c κs. search needs)
     returns-2
-    limit-of-requires
+    (λ c κs. search needs)
     margin-of-requires
-    over-maximum-requires
-    finding-of-requires
+    (λ c κs. search needs)
+    (λ c κs. search needs)
     returns-3)

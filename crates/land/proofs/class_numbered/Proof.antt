@@ -1,4 +1,4 @@
--- `land::class_numbered` meets its contract: each number has its class, and no other number has one. Assumes nothing.
+-- `land::class_numbered` meets its contract: each number has its class, and no other number has one.
 use mathlib.Core.List.{[]}
 use Rattle.quantity.specs.Rules.{firstOf}
 use Rattle.land.specs.Verdict.{unknownClass}

@@ -1,4 +1,4 @@
--- `land::difference` meets its contract: both numbers stand for themselves among the signed ones, and so does their difference. Assumes nothing.
+-- `land::difference` meets its contract: both numbers stand for themselves among the signed ones, and so does their difference.
 use mathlib.Core.Path.{_≡_, _∙_}
 use native.Mathlib.Omega.{arith}
 use lib.IntN.{pos, _-ℤ_}
@@ -14,12 +14,6 @@ use Rattle.land.proofs.difference.Tie as tie
 signed : (c : tie.Start) → toZ w32 (c .args .limit) -ℤ toZ w32 (c .args .level) ≡ pos (c .args .limit) -ℤ pos (c .args .level)
 signed c = rw (toZ-pos w32 {n = c .args .limit} (omega arith), toZ-pos w32 {n = c .args .level} (omega arith))
 
-cast-result : tie.Need-cast-result
-cast-result c = search needs
-
-cast-result-2 : tie.Need-cast-result-2
-cast-result-2 c = search needs
-
 sub-result : tie.Need-sub-result
 sub-result c = rw (signed c) (difference-fits (c .pre .0) (c .pre .1))
 
@@ -27,4 +21,4 @@ returns : tie.Need-returns
 returns c = toZ-ofZ (sub-result c) ∙ signed c
 
 pub difference-spec : {M : Type 1} → statement M
-difference-spec = tie.close (tie.spec cast-result cast-result-2 sub-result returns)
+difference-spec = tie.close (tie.spec (λ c. search needs) (λ c. search needs) sub-result returns)

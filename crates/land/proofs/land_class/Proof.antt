@@ -1,4 +1,4 @@
--- `land::land_class` meets its contract: each branch by one computed test of its letters and digits, the last by the letters. Assumes nothing.
+-- `land::land_class` meets its contract: each branch by one computed test of its letters and digits, the last by the letters.
 use mathlib.Core.List.{[], _∷_}
 use mathlib.Core.Logic.{inl, inr, ⊎-elim}
 use native.Mathlib.Omega.{arith}

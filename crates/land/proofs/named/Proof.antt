@@ -1,4 +1,4 @@
--- `land::named` meets its contract: each pair of tests has its name. Assumes nothing.
+-- `land::named` meets its contract: each pair of tests has its name.
 use Rattle.land.proofs.named.Statement.{statement}
 use Rattle.land.proofs.named.Tie as tie
 

@@ -1,4 +1,4 @@
--- `land::verdict_of_code` meets its contract: the class is looked up first. Assumes nothing.
+-- `land::verdict_of_code` meets its contract: the class is looked up first.
 use mathlib.Core.Path.{_∙_}
 use borrow.Author.Needs.{needs}
 use Rattle.land.specs.Classes.{classOf}
@@ -6,14 +6,8 @@ use Rattle.land.proofs.Assessing.{looked-up}
 use Rattle.land.proofs.verdict_of_code.Statement.{statement}
 use Rattle.land.proofs.verdict_of_code.Tie as tie
 
-land-class-requires : tie.Need-land-class-requires
-land-class-requires c κs = search needs
-
-verdict-on-requires : tie.Need-verdict-on-requires
-verdict-on-requires c κs = search needs
-
 returns : tie.Need-returns
 returns c = c .verdict-on .ensures ∙ looked-up (classOf (c .before .before .args .letter) (c .before .before .args .digit)) (c .before .land-class .ensures) _ _ _
 
 pub verdict-of-code-spec : {M : Type 1} → statement M
-verdict-of-code-spec = tie.close (tie.spec land-class-requires verdict-on-requires returns)
+verdict-of-code-spec = tie.close (tie.spec (λ c κs. search needs) (λ c κs. search needs) returns)

@@ -1,5 +1,5 @@
--- `level::leading_quotient` meets its contract: nine digits are left out a turn, until the quotient fits 64 bits. Assumes nothing.
-use mathlib.Core.Path.{_≡_, sym, _∙_}
+-- `level::leading_quotient` meets its contract: nine digits are left out a turn, until the quotient fits 64 bits.
+use mathlib.Core.Path.{sym, _∙_}
 use Prim.Native.Nat.{_-_, _*_, _≤_}
 use native.Mathlib.Omega.{arith}
 use borrow.Author.Needs.{needs}
@@ -19,29 +19,11 @@ abbrev μ-loop : tie.MeasureT-loop
 passes : (c : tie.Then1 Inv-loop μ-loop) → base * base ≤ value (c .before .before .before .loop .quotient)
 passes c = ltb-false _ _ (sym (c .before .fits-u64 .ensures) ∙ not-true _ (c .if1 .taken))
 
-slice-aggregate-divide : tie.Need-slice-aggregate-divide Inv-loop μ-loop
-slice-aggregate-divide c = search needs
-
-divide-requires : tie.Need-divide-requires Inv-loop μ-loop
-divide-requires c κs = search needs
-
 loop-holds : tie.Need-loop-holds Inv-loop μ-loop
 loop-holds c = reducing-starts _ _ _ (search needs) (c .before .divide .kept .0) (c .before .divide .ensures .1 .1)
 
 slice-aggregate-fits-u64 : tie.Need-slice-aggregate-fits-u64 Inv-loop μ-loop
 slice-aggregate-fits-u64 c = sym (c .before .loop .inv .size)
-
-fits-u64-requires : tie.Need-fits-u64-requires Inv-loop μ-loop
-fits-u64-requires c κs = search needs
-
-slice-aggregate-divide-2 : tie.Need-slice-aggregate-divide-2 Inv-loop μ-loop
-slice-aggregate-divide-2 c = search needs
-
-divide-requires-2 : tie.Need-divide-requires-2 Inv-loop μ-loop
-divide-requires-2 c κs = search needs
-
-add-tens : tie.Need-add-tens Inv-loop μ-loop
-add-tens c = search needs
 
 loop-less : tie.Need-loop-less Inv-loop μ-loop
 loop-less c = omega (arith, reducing-few (c .before .before .before .before .before .before .loop .inv) (passes (c .before .before .before)))
@@ -51,12 +33,6 @@ loop-again c =
     let p = c .before .before .before .before .before .before .loop .inv in
     let d = c .before .divide2 in
     reducing-turn p (d .kept .0) (passes (c .before .before .before)) (d .ensures .1 .0)
-
-slice-aggregate-low-u64 : tie.Need-slice-aggregate-low-u64 Inv-loop μ-loop
-slice-aggregate-low-u64 c = search needs
-
-low-u64-requires : tie.Need-low-u64-requires Inv-loop μ-loop
-low-u64-requires c κs = search needs
 
 returns : tie.Need-returns Inv-loop μ-loop
 returns c =
@@ -71,16 +47,16 @@ leading-quotient-spec =
     (tie.spec
     Inv-loop
     μ-loop
-    slice-aggregate-divide
-    divide-requires
+    (λ c. search needs)
+    (λ c κs. search needs)
     loop-holds
     slice-aggregate-fits-u64
-    fits-u64-requires
-    slice-aggregate-divide-2
-    divide-requires-2
-    add-tens
+    (λ c κs. search needs)
+    (λ c. search needs)
+    (λ c κs. search needs)
+    (λ c. search needs)
     loop-less
     loop-again
-    slice-aggregate-low-u64
-    low-u64-requires
+    (λ c. search needs)
+    (λ c κs. search needs)
     returns)

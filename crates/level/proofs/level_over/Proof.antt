@@ -1,22 +1,10 @@
--- `level::level_over` meets its contract: the divisor is divided out first, and the offset taken off last. Assumes nothing.
+-- `level::level_over` meets its contract: the divisor is divided out first, and the offset taken off last.
 use mathlib.Core.Path.{ap, _∙_}
 use Rattle.level.specs.Leading.{lowered}
 use Rattle.level.proofs.Answer.{divided, offset-taken}
 use borrow.Author.Needs.{needs}
 use Rattle.level.proofs.level_over.Statement.{statement}
 use Rattle.level.proofs.level_over.Tie as tie
-
-mantissas-requires : tie.Need-mantissas-requires
-mantissas-requires c κs = search needs
-
-leading-quotient-requires : tie.Need-leading-quotient-requires
-leading-quotient-requires c κs = search needs
-
-level-of-leading-requires : tie.Need-level-of-leading-requires
-level-of-leading-requires c κs = search needs
-
-lowered-by-requires : tie.Need-lowered-by-requires
-lowered-by-requires c κs = search needs
 
 returns : tie.Need-returns
 returns c =
@@ -27,4 +15,4 @@ returns c =
 pub level-over-spec : {M : Type 1} → statement M
 level-over-spec =
     tie.close
-    (tie.spec mantissas-requires leading-quotient-requires level-of-leading-requires lowered-by-requires returns)
+    (tie.spec (λ c κs. search needs) (λ c κs. search needs) (λ c κs. search needs) (λ c κs. search needs) returns)

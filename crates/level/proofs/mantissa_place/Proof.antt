@@ -1,4 +1,4 @@
--- `level::mantissa_place` meets its contract: the range that holds the place halves with each turn. Assumes nothing.
+-- `level::mantissa_place` meets its contract: the range that holds the place halves with each turn.
 use Prim.Native.Nat.{_-_}
 use borrow.Author.Needs.{needs}
 use Rattle.level.proofs.Digits.{Between, between-starts, between-ends}
@@ -14,28 +14,10 @@ abbrev μ-loop : tie.MeasureT-loop
 loop-holds : tie.Need-loop-holds Inv-loop μ-loop
 loop-holds c = between-starts (c .pre .1) (c .pre .2)
 
-add-loop : tie.Need-add-loop Inv-loop μ-loop
-add-loop c = search needs
-
-add-middle : tie.Need-add-middle Inv-loop μ-loop
-add-middle c = search needs
-
-cast-mantissa-in : tie.Need-cast-mantissa-in Inv-loop μ-loop
-cast-mantissa-in c = search needs
-
-mantissa-in-requires : tie.Need-mantissa-in-requires Inv-loop μ-loop
-mantissa-in-requires c κs = search needs
-
-loop-less : tie.Need-loop-less Inv-loop μ-loop
-loop-less c = search needs
-
 loop-again : tie.Need-loop-again Inv-loop μ-loop
 loop-again c =
     let p = c .before .before .before .loop .inv in
     record { order = search needs; end = p .end; reached = rw (← c .before .mantissa-in .ensures .0) (c .if1 .taken); missed = p .missed }
-
-loop-less-2 : tie.Need-loop-less-2 Inv-loop μ-loop
-loop-less-2 c = search needs
 
 loop-again-2 : tie.Need-loop-again-2 Inv-loop μ-loop
 loop-again-2 c =
@@ -52,12 +34,12 @@ mantissa-place-spec =
     Inv-loop
     μ-loop
     loop-holds
-    add-loop
-    add-middle
-    cast-mantissa-in
-    mantissa-in-requires
-    loop-less
+    (λ c. search needs)
+    (λ c. search needs)
+    (λ c. search needs)
+    (λ c κs. search needs)
+    (λ c. search needs)
     loop-again
-    loop-less-2
+    (λ c. search needs)
     loop-again-2
     returns)

@@ -1,7 +1,6 @@
--- `level::ten_digits` meets its contract: each turn leaves out one digit, and a number of 64 bits has fewer than twenty. Assumes nothing.
-use native.Mathlib.Omega.{arith}
+-- `level::ten_digits` meets its contract: each turn leaves out one digit, and a number of 64 bits has fewer than twenty.
 use borrow.Author.Needs.{needs}
-use Rattle.level.proofs.Digits.{Shortening, shortening-starts, shortening-few, shortening-turn}
+use Rattle.level.proofs.Digits.{Shortening, shortening-starts, shortening-turn}
 use Rattle.level.proofs.ten_digits.Statement.{statement}
 use Rattle.level.proofs.ten_digits.Tie as tie
 
@@ -14,12 +13,6 @@ abbrev μ-loop : tie.MeasureT-loop
 loop-holds : tie.Need-loop-holds Inv-loop μ-loop
 loop-holds c = shortening-starts (search needs)
 
-add-tens : tie.Need-add-tens Inv-loop μ-loop
-add-tens c = search needs
-
-loop-less : tie.Need-loop-less Inv-loop μ-loop
-loop-less c = search needs
-
 loop-again : tie.Need-loop-again Inv-loop μ-loop
 loop-again c = shortening-turn (c .before .loop .inv) (search needs)
 
@@ -28,4 +21,4 @@ returns c = (c .before .loop .inv .same, search needs)
 
 pub ten-digits-spec : {M : Type 1} → statement M
 ten-digits-spec =
-    tie.close (tie.spec Inv-loop μ-loop loop-holds add-tens loop-less loop-again returns)
+    tie.close (tie.spec Inv-loop μ-loop loop-holds (λ c. search needs) (λ c. search needs) loop-again returns)

@@ -1,4 +1,4 @@
--- `limbs::add` meets its contract: a pass with a carry, whose limb at i adds what it was and the limb of b. Assumes nothing.
+-- `limbs::add` meets its contract: a pass with a carry, whose limb at i adds what it was and the limb of b.
 use Prim.Native.Nat.{ℕ, _+_, _-_}
 use mathlib.Core.Path.{_≡_, ap, _∙_}
 use native.Mathlib.Nat.{add-mul}
@@ -23,33 +23,6 @@ loop-holds : tie.Need-loop-holds Inv-loop μ-loop
 loop-holds c =
     carried-none _ (now (c .before .before .args .a)) (λ j. c .before .slice-known .given j .fits) (rw value-none (omega arith))
 
-mul-limb-sum : tie.Need-mul-limb-sum Inv-loop μ-loop
-mul-limb-sum c = search needs
-
-slice-read-limb-sum : tie.Need-slice-read-limb-sum Inv-loop μ-loop
-slice-read-limb-sum c = search needs
-
-mul-limb-sum-2 : tie.Need-mul-limb-sum-2 Inv-loop μ-loop
-mul-limb-sum-2 c = search needs
-
-shared-slice-read-limb-sum : tie.Need-shared-slice-read-limb-sum Inv-loop μ-loop
-shared-slice-read-limb-sum c = search needs
-
-limb-sum-requires : tie.Need-limb-sum-requires Inv-loop μ-loop
-limb-sum-requires c κs = search needs
-
-mul-a : tie.Need-mul-a Inv-loop μ-loop
-mul-a c = search needs
-
-slice-write-a : tie.Need-slice-write-a Inv-loop μ-loop
-slice-write-a c = search needs
-
-add-i : tie.Need-add-i Inv-loop μ-loop
-add-i c = search needs
-
-loop-less : tie.Need-loop-less Inv-loop μ-loop
-loop-less c = search needs
-
 loop-again : tie.Need-loop-again Inv-loop μ-loop
 loop-again c =
     let s = c .before .before .before .before .before .before .before in
@@ -61,9 +34,6 @@ loop-again c =
     carried-more (l .inv) (getD a₀ (l .i) 0 + getD b (l .i) 0) (t .result .low) (t .result .high) (omega arith) (omega arith)
     (t .ensures ∙ ap (λ (n : ℕ). n + getD b (l .i) 0 + l .carry) (carried-at (l .inv)))
     (rw (value-take a₀ (l .i), value-take b (l .i), add-mul) (omega arith))
-
-same-length : tie.Need-same-length Inv-loop μ-loop
-same-length c = search needs
 
 returns : tie.Need-returns Inv-loop μ-loop
 returns c =
@@ -80,15 +50,15 @@ add-spec =
     Inv-loop
     μ-loop
     loop-holds
-    mul-limb-sum
-    slice-read-limb-sum
-    mul-limb-sum-2
-    shared-slice-read-limb-sum
-    limb-sum-requires
-    mul-a
-    slice-write-a
-    add-i
-    loop-less
+    (λ c. search needs)
+    (λ c. search needs)
+    (λ c. search needs)
+    (λ c. search needs)
+    (λ c κs. search needs)
+    (λ c. search needs)
+    (λ c. search needs)
+    (λ c. search needs)
+    (λ c. search needs)
     loop-again
-    same-length
+    (λ c. search needs)
     returns)

@@ -1,4 +1,4 @@
--- `limbs::compare` meets its contract: while the limbs that are passed are the same, the others decide. Assumes nothing.
+-- `limbs::compare` meets its contract: while the limbs that are passed are the same, the others decide.
 use mathlib.Core.Path.{_≡_}
 use native.Mathlib.Omega.{arith}
 use borrow.Author.Needs.{needs}
@@ -16,21 +16,6 @@ abbrev μ-loop : tie.MeasureT-loop
 loop-holds : tie.Need-loop-holds Inv-loop μ-loop
 loop-holds c = undecided-all (now (c .args .a)) (now (c .args .b)) (c .pre)
 
-sub-i : tie.Need-sub-i Inv-loop μ-loop
-sub-i c = search needs
-
-mul-x : tie.Need-mul-x Inv-loop μ-loop
-mul-x c = search needs
-
-shared-slice-read-x : tie.Need-shared-slice-read-x Inv-loop μ-loop
-shared-slice-read-x c = search needs
-
-mul-y : tie.Need-mul-y Inv-loop μ-loop
-mul-y c = search needs
-
-shared-slice-read-y : tie.Need-shared-slice-read-y Inv-loop μ-loop
-shared-slice-read-y c = search needs
-
 returns : tie.Need-returns Inv-loop μ-loop
 returns c =
     let d = c .before in
@@ -42,9 +27,6 @@ returns-2 c =
     let d = c .before .before in
     top-greater (d .before .before .before .loop .inv) (omega arith) (λ k. d .before .shared-slice-known .given k .fits)
     (λ k. d .shared-slice-known2 .given k .fits) (c .if2 .taken)
-
-loop-less : tie.Need-loop-less Inv-loop μ-loop
-loop-less c = search needs
 
 loop-again : tie.Need-loop-again Inv-loop μ-loop
 loop-again c =
@@ -64,13 +46,13 @@ compare-spec =
     Inv-loop
     μ-loop
     loop-holds
-    sub-i
-    mul-x
-    shared-slice-read-x
-    mul-y
-    shared-slice-read-y
+    (λ c. search needs)
+    (λ c. search needs)
+    (λ c. search needs)
+    (λ c. search needs)
+    (λ c. search needs)
     returns
     returns-2
-    loop-less
+    (λ c. search needs)
     loop-again
     returns-3)

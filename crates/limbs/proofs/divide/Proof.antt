@@ -1,4 +1,4 @@
--- `limbs::divide` meets its contract: a pass with a remainder, from the top limb down. Assumes nothing.
+-- `limbs::divide` meets its contract: a pass with a remainder, from the top limb down.
 use Prim.Native.Nat.{ℕ, _+_, _*_}
 use mathlib.Core.Path.{_≡_, ap, _∙_}
 use native.Mathlib.Omega.{arith}
@@ -18,36 +18,12 @@ abbrev μ-loop : tie.MeasureT-loop
 loop-holds : tie.Need-loop-holds Inv-loop μ-loop
 loop-holds c = divided-none (c .before .args .d) (now (c .before .args .a)) (λ j. c .slice-known .given j .fits) (c .before .pre)
 
-sub-i : tie.Need-sub-i Inv-loop μ-loop
-sub-i c = search needs
-
-mul-limb-quotient : tie.Need-mul-limb-quotient Inv-loop μ-loop
-mul-limb-quotient c = search needs
-
-slice-read-limb-quotient : tie.Need-slice-read-limb-quotient Inv-loop μ-loop
-slice-read-limb-quotient c = search needs
-
-limb-quotient-requires : tie.Need-limb-quotient-requires Inv-loop μ-loop
-limb-quotient-requires c κs = search needs
-
-mul-a : tie.Need-mul-a Inv-loop μ-loop
-mul-a c = search needs
-
-slice-write-a : tie.Need-slice-write-a Inv-loop μ-loop
-slice-write-a c = search needs
-
-loop-less : tie.Need-loop-less Inv-loop μ-loop
-loop-less c = search needs
-
 loop-again : tie.Need-loop-again Inv-loop μ-loop
 loop-again c =
     let l = c .before .before .before .loop in
     let t = c .limb-quotient in
     divided-more (l .inv) (omega arith) (t .result .quotient) (t .result .remainder) (omega arith) (t .ensures .1)
     (t .ensures .0 ∙ ap (λ (n : ℕ). l .remainder * base + n) (divided-at (l .inv) (omega arith)))
-
-same-length : tie.Need-same-length Inv-loop μ-loop
-same-length c = search needs
 
 returns : tie.Need-returns Inv-loop μ-loop
 returns c =
@@ -63,13 +39,13 @@ divide-spec =
     Inv-loop
     μ-loop
     loop-holds
-    sub-i
-    mul-limb-quotient
-    slice-read-limb-quotient
-    limb-quotient-requires
-    mul-a
-    slice-write-a
-    loop-less
+    (λ c. search needs)
+    (λ c. search needs)
+    (λ c. search needs)
+    (λ c κs. search needs)
+    (λ c. search needs)
+    (λ c. search needs)
+    (λ c. search needs)
     loop-again
-    same-length
+    (λ c. search needs)
     returns)

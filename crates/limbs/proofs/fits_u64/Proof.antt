@@ -1,4 +1,4 @@
--- `limbs::fits_u64` meets its contract: the limbs that are passed are 0, so the number is that of the others. Assumes nothing.
+-- `limbs::fits_u64` meets its contract: the limbs that are passed are 0, so the number is that of the others.
 use mathlib.Core.Path.{_≡_, ap, sym}
 use native.Mathlib.Omega.{arith}
 use borrow.Author.Needs.{needs}
@@ -20,20 +20,11 @@ abbrev μ-loop : tie.MeasureT-loop
 loop-holds : tie.Need-loop-holds Inv-loop μ-loop
 loop-holds c = ap value (sym (take-length (now (c .before .args .a))))
 
-sub-i : tie.Need-sub-i Inv-loop μ-loop
-sub-i c = search needs
-
-limb-at-requires : tie.Need-limb-at-requires Inv-loop μ-loop
-limb-at-requires c κs = search needs
-
 returns : tie.Need-returns Inv-loop μ-loop
 returns c =
     let l = c .before .before .before .loop in
     let a = now (c .before .before .before .before .before .args .a) in
     sym (le-ltb _ _ (top-above a (l .i) (omega arith) (l .inv) (omega arith) (omega arith)))
-
-loop-less : tie.Need-loop-less Inv-loop μ-loop
-loop-less c = search needs
 
 loop-again : tie.Need-loop-again Inv-loop μ-loop
 loop-again c =
@@ -54,9 +45,9 @@ fits-u64-spec =
     Inv-loop
     μ-loop
     loop-holds
-    sub-i
-    limb-at-requires
+    (λ c. search needs)
+    (λ c κs. search needs)
     returns
-    loop-less
+    (λ c. search needs)
     loop-again
     returns-2)

@@ -1,4 +1,4 @@
--- `limbs::limb_product` meets its contract: a product of two limbs leaves room for a third. Assumes nothing.
+-- `limbs::limb_product` meets its contract: a product of two limbs leaves room for a third.
 use borrow.Author.Needs.{needs}
 use native.Mathlib.Omega.{arith}
 use Rattle.limbs.proofs.Carry.{product}
@@ -11,11 +11,5 @@ mul-split c = omega (arith, product (c .args .a) (c .args .b) (search needs) (se
 add-split : tie.Need-add-split
 add-split c = omega (arith, product (c .args .a) (c .args .b) (search needs) (search needs))
 
-split-requires : tie.Need-split-requires
-split-requires c κs = search needs
-
-returns : tie.Need-returns
-returns c = search needs
-
 pub limb-product-spec : {M : Type 1} → statement M
-limb-product-spec = tie.close (tie.spec mul-split add-split split-requires returns)
+limb-product-spec = tie.close (tie.spec mul-split add-split (λ c κs. search needs) (λ c. search needs))

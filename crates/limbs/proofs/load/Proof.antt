@@ -1,4 +1,4 @@
--- `limbs::load` meets its contract: a pass that carries nothing, whose limb at i becomes that of b. Assumes nothing.
+-- `limbs::load` meets its contract: a pass that carries nothing, whose limb at i becomes that of b.
 use Prim.Native.Nat.{_-_, _≤_}
 use native.Mathlib.Nat.{zero-mul, add-zero}
 use native.Mathlib.Omega.{arith}
@@ -21,21 +21,6 @@ abbrev μ-loop : tie.MeasureT-loop
 loop-holds : tie.Need-loop-holds Inv-loop μ-loop
 loop-holds c = carried-none _ (now (c .before .before .args .a)) (λ j. c .before .slice-known .given j .fits) value-none
 
-limb-at-requires : tie.Need-limb-at-requires Inv-loop μ-loop
-limb-at-requires c κs = search needs
-
-mul-a : tie.Need-mul-a Inv-loop μ-loop
-mul-a c = search needs
-
-slice-write-a : tie.Need-slice-write-a Inv-loop μ-loop
-slice-write-a c = search needs
-
-add-i : tie.Need-add-i Inv-loop μ-loop
-add-i c = search needs
-
-loop-less : tie.Need-loop-less Inv-loop μ-loop
-loop-less c = search needs
-
 loop-again : tie.Need-loop-again Inv-loop μ-loop
 loop-again c =
     let s = c .before .before .before in
@@ -43,9 +28,6 @@ loop-again c =
     let b = now (s .before .before .args .b) in
     let t = c .limb-at in
     carried-more (l .inv) (getD b (l .i) 0) (t .result) 0 (omega arith) (omega arith) (omega arith) (value-take b (l .i))
-
-same-length : tie.Need-same-length Inv-loop μ-loop
-same-length c = search needs
 
 returns : tie.Need-returns Inv-loop μ-loop
 returns c =
@@ -63,11 +45,11 @@ load-spec =
     Inv-loop
     μ-loop
     loop-holds
-    limb-at-requires
-    mul-a
-    slice-write-a
-    add-i
-    loop-less
+    (λ c κs. search needs)
+    (λ c. search needs)
+    (λ c. search needs)
+    (λ c. search needs)
+    (λ c. search needs)
     loop-again
-    same-length
+    (λ c. search needs)
     returns)

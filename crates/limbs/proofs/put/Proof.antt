@@ -1,4 +1,4 @@
--- `limbs::put` meets its contract: the number of its two halves is loaded. Assumes nothing.
+-- `limbs::put` meets its contract: the number of its two halves is loaded.
 use mathlib.Core.Path.{ap, _∙_}
 use borrow.Author.Needs.{needs}
 use denote.Ref.{now}
@@ -7,18 +7,6 @@ use Rattle.limbs.specs.Value.{limbsOf}
 use Rattle.limbs.proofs.Value.{value-pair}
 use Rattle.limbs.proofs.put.Statement.{statement}
 use Rattle.limbs.proofs.put.Tie as tie
-
-split-requires : tie.Need-split-requires
-split-requires c κs = search needs
-
-slice-aggregate-load : tie.Need-slice-aggregate-load
-slice-aggregate-load c = search needs
-
-load-requires : tie.Need-load-requires
-load-requires c κs = search needs
-
-same-length : tie.Need-same-length
-same-length c = search needs
 
 returns : tie.Need-returns
 returns c =
@@ -29,4 +17,4 @@ returns c =
 
 pub put-spec : {M : Type 1} → statement M
 put-spec =
-    tie.close (tie.spec split-requires slice-aggregate-load load-requires same-length returns)
+    tie.close (tie.spec (λ c κs. search needs) (λ c. search needs) (λ c κs. search needs) (λ c. search needs) returns)

@@ -1,4 +1,4 @@
--- `limbs::scale` meets its contract: a pass with a carry, whose limb at i adds k times what it was. Assumes nothing.
+-- `limbs::scale` meets its contract: a pass with a carry, whose limb at i adds k times what it was.
 use Prim.Native.Nat.{ℕ, _+_, _*_, _-_, _^_}
 use mathlib.Core.Path.{refl, ap, _∙_}
 use native.Mathlib.Nat.{add-mul, mul-right-comm}
@@ -22,27 +22,6 @@ abbrev μ-loop : tie.MeasureT-loop
 loop-holds : tie.Need-loop-holds Inv-loop μ-loop
 loop-holds c = carried-none _ (now (c .before .args .a)) (λ j. c .slice-known .given j .fits) (rw value-none (omega arith))
 
-mul-limb-product : tie.Need-mul-limb-product Inv-loop μ-loop
-mul-limb-product c = search needs
-
-slice-read-limb-product : tie.Need-slice-read-limb-product Inv-loop μ-loop
-slice-read-limb-product c = search needs
-
-limb-product-requires : tie.Need-limb-product-requires Inv-loop μ-loop
-limb-product-requires c κs = search needs
-
-mul-a : tie.Need-mul-a Inv-loop μ-loop
-mul-a c = search needs
-
-slice-write-a : tie.Need-slice-write-a Inv-loop μ-loop
-slice-write-a c = search needs
-
-add-i : tie.Need-add-i Inv-loop μ-loop
-add-i c = search needs
-
-loop-less : tie.Need-loop-less Inv-loop μ-loop
-loop-less c = search needs
-
 loop-again : tie.Need-loop-again Inv-loop μ-loop
 loop-again c =
     let l = c .before .before .before .loop in
@@ -52,9 +31,6 @@ loop-again c =
     carried-more (l .inv) (getD a₀ (l .i) 0 * k) (t .result .low) (t .result .high) (omega arith) (omega arith)
     (t .ensures ∙ ap (λ (n : ℕ). n * k + l .carry) (carried-at (l .inv)))
     (rw (value-take a₀ (l .i), add-mul, mul-right-comm (getD a₀ (l .i) 0) k (base ^ l .i)) refl)
-
-same-length : tie.Need-same-length Inv-loop μ-loop
-same-length c = search needs
 
 returns : tie.Need-returns Inv-loop μ-loop
 returns c =
@@ -68,13 +44,13 @@ scale-spec =
     Inv-loop
     μ-loop
     loop-holds
-    mul-limb-product
-    slice-read-limb-product
-    limb-product-requires
-    mul-a
-    slice-write-a
-    add-i
-    loop-less
+    (λ c. search needs)
+    (λ c. search needs)
+    (λ c κs. search needs)
+    (λ c. search needs)
+    (λ c. search needs)
+    (λ c. search needs)
+    (λ c. search needs)
     loop-again
-    same-length
+    (λ c. search needs)
     returns)

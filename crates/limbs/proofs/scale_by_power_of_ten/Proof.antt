@@ -1,4 +1,4 @@
--- `limbs::scale_by_power_of_ten` meets its contract: each turn leaves the limbs of the product with the tens that are left. Assumes nothing.
+-- `limbs::scale_by_power_of_ten` meets its contract: each turn leaves the limbs of the product with the tens that are left.
 use Prim.Native.Nat.{ℕ, _*_, _-_, _^_, _≤_}
 use mathlib.Core.Path.{_≡_, refl, ap, ap₂, _∙_}
 use mathlib.Core.List.{List}
@@ -22,12 +22,6 @@ abbrev μ-loop : tie.MeasureT-loop
 loop-holds : tie.Need-loop-holds Inv-loop μ-loop
 loop-holds c = (omega arith, refl, refl)
 
-scale-requires : tie.Need-scale-requires Inv-loop μ-loop
-scale-requires c κs = search needs
-
-loop-less : tie.Need-loop-less Inv-loop μ-loop
-loop-less c = search needs
-
 loop-again : tie.Need-loop-again Inv-loop μ-loop
 loop-again c =
     let t = c .before .before .scale in
@@ -38,18 +32,6 @@ loop-again c =
       search needs,
       ap (λ (x : List ℕ). limbsOf n (value x * 10 ^ (l .left - 9))) e ∙ nine-tens n (value (l .a)) (l .left) (omega arith) ∙ l .inv .2,
     )
-
-cast-power-of-ten : tie.Need-cast-power-of-ten Inv-loop μ-loop
-cast-power-of-ten c = search needs
-
-power-of-ten-requires : tie.Need-power-of-ten-requires Inv-loop μ-loop
-power-of-ten-requires c κs = search needs
-
-scale-requires-2 : tie.Need-scale-requires-2 Inv-loop μ-loop
-scale-requires-2 c κs = search needs
-
-same-length : tie.Need-same-length Inv-loop μ-loop
-same-length c = search needs
 
 returns : tie.Need-returns Inv-loop μ-loop
 returns c =
@@ -65,11 +47,11 @@ scale-by-power-of-ten-spec =
     Inv-loop
     μ-loop
     loop-holds
-    scale-requires
-    loop-less
+    (λ c κs. search needs)
+    (λ c. search needs)
     loop-again
-    cast-power-of-ten
-    power-of-ten-requires
-    scale-requires-2
-    same-length
+    (λ c. search needs)
+    (λ c κs. search needs)
+    (λ c κs. search needs)
+    (λ c. search needs)
     returns)

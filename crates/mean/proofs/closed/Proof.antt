@@ -1,4 +1,4 @@
--- `mean::closed` meets its contract: each refusal is the first rule that refuses, and the mean is the level over the days. Assumes nothing.
+-- `mean::closed` meets its contract: each refusal is the first rule that refuses, and the mean is the level over the days.
 use borrow.Author.Needs.{needs}
 use mathlib.Core.Path.{ap}
 use borrow.Author.Tests.{eq-eqb, ne-eqb}
@@ -16,18 +16,6 @@ returns-2 : tie.Need-returns-2
 unfolding closedOf firstOf
 returns-2 c = rw (ne-eqb _ _ (c .before .if1 .left), c .if2 .taken)
 
-mantissas-requires : tie.Need-mantissas-requires
-mantissas-requires c κs = search needs
-
-slice-aggregate-level-over : tie.Need-slice-aggregate-level-over
-slice-aggregate-level-over c = search needs
-
-cast-level-over : tie.Need-cast-level-over
-cast-level-over c = search needs
-
-level-over-requires : tie.Need-level-over-requires
-level-over-requires c κs = search needs
-
 returns-3 : tie.Need-returns-3
 unfolding closedOf firstOf
 returns-3 c = rw (ne-eqb _ _ (c .before .before .before .before .before .if1 .left), c .before .before .before .before .if2 .left) (ap mean (c .level-over .ensures))
@@ -38,8 +26,8 @@ closed-spec =
     (tie.spec
     returns
     returns-2
-    mantissas-requires
-    slice-aggregate-level-over
-    cast-level-over
-    level-over-requires
+    (λ c κs. search needs)
+    (λ c. search needs)
+    (λ c. search needs)
+    (λ c κs. search needs)
     returns-3)

@@ -1,4 +1,4 @@
--- `mean::days_counted` meets its contract: each answer by the tests that led to it. Assumes nothing.
+-- `mean::days_counted` meets its contract: each answer by the tests that led to it.
 use Rattle.mean.proofs.days_counted.Statement.{statement}
 use borrow.Author.Tests.{lt-ltb, le-ltb}
 use Rattle.mean.proofs.days_counted.Tie as tie

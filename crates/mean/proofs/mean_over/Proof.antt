@@ -1,7 +1,6 @@
 -- `mean::mean_over` meets its contract: a walk of its code by hand. The covered `days_counted` and `no_days` start it, a turn of the loop calls
 -- `read_record` and the covered `with_read`, and the covered `closed` forms the mean. The loop's variant is the place with the machine value of
 -- the total so far; all else of the invariant is a function of it. The slice is Copy: one of its copies goes to `read_record` at each turn.
--- Assumes nothing.
 use mathlib.Core.Path.{_≡_, refl, sym, ap, _∙_, subst}
 use Prim.Native.Nat.{ℕ, _+_, _-_, _≤_, _<_, _^_, zero-le}
 use native.Mathlib.Nat.{le-trans, le-antisymm, lt-of-le-of-lt, lt-of-lt-of-le}

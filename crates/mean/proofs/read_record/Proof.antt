@@ -1,6 +1,5 @@
 -- `mean::read_record` meets its contract: a walk of its code by hand. A place past the run's end is refused. Else the record stands 12 · place
 -- bytes past the slice's pointer: the slice is looked into, the record is read there as one value, and the slice is shut again.
--- Assumes nothing.
 use mathlib.Core.Path.{_≡_, refl, sym}
 use Prim.Native.Nat.{ℕ, _<_, _^_}
 use mathlib.Core.List.{List, [], _∷_}

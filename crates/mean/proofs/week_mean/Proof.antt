@@ -1,4 +1,4 @@
--- `mean::week_mean` meets its contract: it hands its days on to `mean_over`, with 7 and 7. Assumes nothing.
+-- `mean::week_mean` meets its contract: it hands its days on to `mean_over`, with 7 and 7.
 use lib.Dec.{lit<, lit≤}
 use contract.Running.{givenOf, tables, tablesOf}
 use denote.Triple.Spec.{tripleOf}

@@ -1,4 +1,4 @@
--- `mean::with_read` meets its contract: by the case of what was read. Assumes nothing.
+-- `mean::with_read` meets its contract: by the case of what was read.
 use borrow.Author.Needs.{needs}
 use mathlib.Core.Path.{sym, ap, _∙_}
 use Rattle.mean.specs.Total.{withRead}
@@ -6,18 +6,6 @@ use Rattle.mean.specs.Records.{readResult}
 use Rattle.mean.specs.declared.ReadAnswer.{ReadAnswer}
 use Rattle.mean.proofs.with_read.Statement.{statement}
 use Rattle.mean.proofs.with_read.Tie as tie
-
-enum-known-read : tie.Need-enum-known-read
-enum-known-read c = search needs
-
-mantissas-requires : tie.Need-mantissas-requires
-mantissas-requires c κs = search needs
-
-with-day-requires : tie.Need-with-day-requires
-with-day-requires c κs = search needs
-
-enum-told : tie.Need-enum-told
-enum-told c = search needs
 
 returns : tie.Need-returns
 returns c =
@@ -30,4 +18,4 @@ returns-2 c = sym (ap (λ (a : ReadAnswer). withRead (c .before .before .args .t
 pub with-read-spec : {M : Type 1} → statement M
 with-read-spec =
     tie.close
-    (tie.spec enum-known-read mantissas-requires with-day-requires enum-told returns returns-2)
+    (tie.spec (λ c. search needs) (λ c κs. search needs) (λ c κs. search needs) (λ c. search needs) returns returns-2)

@@ -1,4 +1,4 @@
--- `mean::year_mean` meets its contract: it hands its days on to `mean_over`, with 1 and 366. Assumes nothing.
+-- `mean::year_mean` meets its contract: it hands its days on to `mean_over`, with 1 and 366.
 use lib.Dec.{lit<, lit≤}
 use contract.Running.{givenOf, tables, tablesOf}
 use denote.Triple.Spec.{tripleOf}

@@ -1,14 +1,8 @@
--- `power::mantissa_in` meets its contract. Assumes nothing.
+-- `power::mantissa_in` meets its contract.
 use borrow.Author.Needs.{needs}
 use Rattle.power.proofs.Cut.{m-low, m-high}
 use Rattle.power.proofs.mantissa_in.Statement.{statement}
 use Rattle.power.proofs.mantissa_in.Tie as tie
-
-mul-result : tie.Need-mul-result
-mul-result c = search needs
-
-element-copy-out-result : tie.Need-element-copy-out-result
-element-copy-out-result c = search needs
 
 returns : tie.Need-returns
 returns c =
@@ -18,4 +12,4 @@ returns c =
     (r, rw r (m-low f, m-high f (p .0)))
 
 pub mantissa-in-spec : {M : Type 1} → statement M
-mantissa-in-spec = tie.close (tie.spec mul-result element-copy-out-result returns)
+mantissa-in-spec = tie.close (tie.spec (λ c. search needs) (λ c. search needs) returns)

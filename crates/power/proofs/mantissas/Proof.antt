@@ -1,5 +1,5 @@
 -- `power::mantissas` meets its contract. The table is read off the function's own code, so it stands in the source alone. Its rule is a test that
--- is computed at each of the thousand entries, in eight runs, since a declaration may take 50,000,000 steps. Assumes nothing.
+-- is computed at each of the thousand entries, in eight runs, since a declaration may take 50,000,000 steps.
 use mathlib.Core.Path.{_≡_}
 use mathlib.Core.Bool.{Bool, _&&_}
 use mathlib.Core.List.{List}

@@ -1,18 +1,9 @@
--- `power::power_of` meets its contract: the mantissa has ten digits, and with the exponent it makes e. Assumes nothing.
+-- `power::power_of` meets its contract: the mantissa has ten digits, and with the exponent it makes e.
 use mathlib.Core.Path.{refl}
 use borrow.Author.Needs.{needs}
 use Rattle.power.specs.Power.{e}
 use Rattle.power.proofs.power_of.Statement.{statement}
 use Rattle.power.proofs.power_of.Tie as tie
-
-mantissas-requires : tie.Need-mantissas-requires
-mantissas-requires c κs = search needs
-
-cast-mantissa-in : tie.Need-cast-mantissa-in
-cast-mantissa-in c = search needs
-
-mantissa-in-requires : tie.Need-mantissa-in-requires
-mantissa-in-requires c κs = search needs
 
 returns : tie.Need-returns
 unfolding e
@@ -22,4 +13,4 @@ returns c =
 
 pub power-of-spec : {M : Type 1} → statement M
 power-of-spec =
-    tie.close (tie.spec mantissas-requires cast-mantissa-in mantissa-in-requires returns)
+    tie.close (tie.spec (λ c κs. search needs) (λ c. search needs) (λ c κs. search needs) returns)

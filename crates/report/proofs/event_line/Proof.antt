@@ -1,28 +1,10 @@
--- `report::event_line` meets its contract: the letter, the number, the fields of the answer and the end. Assumes nothing.
+-- `report::event_line` meets its contract: the letter, the number, the fields of the answer and the end.
 use mathlib.Core.List.{append-nil}
 use borrow.Author.Needs.{needs}
 use Rattle.io.proofs.Counting.{counts}
 use Rattle.report.specs.Text.{decimal}
 use Rattle.report.proofs.event_line.Statement.{statement}
 use Rattle.report.proofs.event_line.Tie as tie
-
-slice-aggregate-put : tie.Need-slice-aggregate-put
-slice-aggregate-put c = search needs
-
-put-requires : tie.Need-put-requires
-put-requires c κs = search needs
-
-put-number-requires : tie.Need-put-number-requires
-put-number-requires c κs = search needs
-
-put-offer-requires : tie.Need-put-offer-requires
-put-offer-requires c κs = search needs
-
-slice-aggregate-put-2 : tie.Need-slice-aggregate-put-2
-slice-aggregate-put-2 c = search needs
-
-put-requires-2 : tie.Need-put-requires-2
-put-requires-2 c κs = search needs
 
 returns : tie.Need-returns
 returns c =
@@ -38,10 +20,10 @@ pub event-line-spec : {M : Type 1} → statement M
 event-line-spec =
     tie.close
     (tie.spec
-    slice-aggregate-put
-    put-requires
-    put-number-requires
-    put-offer-requires
-    slice-aggregate-put-2
-    put-requires-2
+    (λ c. search needs)
+    (λ c κs. search needs)
+    (λ c κs. search needs)
+    (λ c κs. search needs)
+    (λ c. search needs)
+    (λ c κs. search needs)
     returns)

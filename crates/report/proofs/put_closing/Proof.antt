@@ -1,4 +1,4 @@
--- `report::put_closing` meets its contract: one field behind the other. Assumes nothing.
+-- `report::put_closing` meets its contract: one field behind the other.
 use borrow.Author.Needs.{needs}
 use lib.ListN.{take}
 use Rattle.closing.specs.Close.{closeResult}
@@ -7,30 +7,6 @@ use Rattle.report.specs.Text.{closeFields}
 use Rattle.report.proofs.Fields.{fields}
 use Rattle.report.proofs.put_closing.Statement.{statement}
 use Rattle.report.proofs.put_closing.Tie as tie
-
-put-letter-requires : tie.Need-put-letter-requires
-put-letter-requires c κs = search needs
-
-put-level-requires : tie.Need-put-level-requires
-put-level-requires c κs = search needs
-
-method-number-requires : tie.Need-method-number-requires
-method-number-requires c κs = search needs
-
-cast-put-number : tie.Need-cast-put-number
-cast-put-number c = search needs
-
-put-number-requires : tie.Need-put-number-requires
-put-number-requires c κs = search needs
-
-put-number-requires-2 : tie.Need-put-number-requires-2
-put-number-requires-2 c κs = search needs
-
-put-number-requires-3 : tie.Need-put-number-requires-3
-put-number-requires-3 c κs = search needs
-
-put-highest-requires : tie.Need-put-highest-requires
-put-highest-requires c κs = search needs
 
 returns : tie.Need-returns
 returns c =
@@ -57,12 +33,12 @@ pub put-closing-spec : {M : Type 1} → statement M
 put-closing-spec =
     tie.close
     (tie.spec
-    put-letter-requires
-    put-level-requires
-    method-number-requires
-    cast-put-number
-    put-number-requires
-    put-number-requires-2
-    put-number-requires-3
-    put-highest-requires
+    (λ c κs. search needs)
+    (λ c κs. search needs)
+    (λ c κs. search needs)
+    (λ c. search needs)
+    (λ c κs. search needs)
+    (λ c κs. search needs)
+    (λ c κs. search needs)
+    (λ c κs. search needs)
     returns)

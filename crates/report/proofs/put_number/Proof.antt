@@ -1,4 +1,4 @@
--- `report::put_number` meets its contract: the fewest digits of the number, behind a space. Assumes nothing.
+-- `report::put_number` meets its contract: the fewest digits of the number, behind a space.
 use mathlib.Core.Path.{_∙_}
 use mathlib.Core.List.{[], _∷_, append-assoc, append-nil}
 use Prim.Native.Nat.{_≤_}
@@ -9,21 +9,6 @@ use Rattle.report.specs.Text.{decimal}
 use Rattle.report.proofs.Decimal.{fewest-decimal, at-most}
 use Rattle.report.proofs.put_number.Statement.{statement}
 use Rattle.report.proofs.put_number.Tie as tie
-
-decimal-requires : tie.Need-decimal-requires
-decimal-requires c κs = search needs
-
-slice-aggregate-put : tie.Need-slice-aggregate-put
-slice-aggregate-put c = search needs
-
-put-requires : tie.Need-put-requires
-put-requires c κs = search needs
-
-array-share-prefix-digits : tie.Need-array-share-prefix-digits
-array-share-prefix-digits c = search needs
-
-slice-aggregate-put-2 : tie.Need-slice-aggregate-put-2
-slice-aggregate-put-2 c = search needs
 
 -- ten digits hold a u32
 few : (c : tie.After-decimal) → c .decimal .result ≤ 10
@@ -48,10 +33,10 @@ pub put-number-spec : {M : Type 1} → statement M
 put-number-spec =
     tie.close
     (tie.spec
-    decimal-requires
-    slice-aggregate-put
-    put-requires
-    array-share-prefix-digits
-    slice-aggregate-put-2
+    (λ c κs. search needs)
+    (λ c. search needs)
+    (λ c κs. search needs)
+    (λ c. search needs)
+    (λ c. search needs)
     put-requires-2
     returns)

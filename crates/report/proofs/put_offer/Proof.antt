@@ -1,4 +1,4 @@
--- `report::put_offer` meets its contract: one field behind the other, or the refusal. Assumes nothing.
+-- `report::put_offer` meets its contract: one field behind the other, or the refusal.
 use borrow.Author.Needs.{needs}
 use lib.ListN.{take}
 use Rattle.ledger.specs.Offer.{offerResult}
@@ -7,24 +7,6 @@ use Rattle.report.specs.Text.{offerFields}
 use Rattle.report.proofs.Fields.{fields}
 use Rattle.report.proofs.put_offer.Statement.{statement}
 use Rattle.report.proofs.put_offer.Tie as tie
-
-enum-known-answer : tie.Need-enum-known-answer
-enum-known-answer c = search needs
-
-put-refusal-requires : tie.Need-put-refusal-requires
-put-refusal-requires c κs = search needs
-
-enum-known-answer-2 : tie.Need-enum-known-answer-2
-enum-known-answer-2 c = search needs
-
-put-letter-requires : tie.Need-put-letter-requires
-put-letter-requires c κs = search needs
-
-put-level-requires : tie.Need-put-level-requires
-put-level-requires c κs = search needs
-
-put-number-requires : tie.Need-put-number-requires
-put-number-requires c κs = search needs
 
 returns : tie.Need-returns
 returns c = (rw (c .before .before .before .answer .given .1) (c .put-refusal .ensures .0), search needs)
@@ -45,11 +27,11 @@ pub put-offer-spec : {M : Type 1} → statement M
 put-offer-spec =
     tie.close
     (tie.spec
-    enum-known-answer
-    put-refusal-requires
-    enum-known-answer-2
-    put-letter-requires
-    put-level-requires
-    put-number-requires
+    (λ c. search needs)
+    (λ c κs. search needs)
+    (λ c. search needs)
+    (λ c κs. search needs)
+    (λ c κs. search needs)
+    (λ c κs. search needs)
     returns
     returns-2)

@@ -1,4 +1,4 @@
--- `report::put_refusal` meets its contract: the number behind the letter. Assumes nothing.
+-- `report::put_refusal` meets its contract: the number behind the letter.
 use mathlib.Core.List.{[], _∷_}
 use borrow.Author.Needs.{needs}
 use lib.ListN.{take}
@@ -7,18 +7,6 @@ use Rattle.report.specs.Text.{letterR, decimal}
 use Rattle.report.proofs.Fields.{fields}
 use Rattle.report.proofs.put_refusal.Statement.{statement}
 use Rattle.report.proofs.put_refusal.Tie as tie
-
-put-letter-requires : tie.Need-put-letter-requires
-put-letter-requires c κs = search needs
-
-refusal-number-requires : tie.Need-refusal-number-requires
-refusal-number-requires c κs = search needs
-
-cast-put-number : tie.Need-cast-put-number
-cast-put-number c = search needs
-
-put-number-requires : tie.Need-put-number-requires
-put-number-requires c κs = search needs
 
 returns : tie.Need-returns
 returns c =
@@ -32,8 +20,8 @@ pub put-refusal-spec : {M : Type 1} → statement M
 put-refusal-spec =
     tie.close
     (tie.spec
-    put-letter-requires
-    refusal-number-requires
-    cast-put-number
-    put-number-requires
+    (λ c κs. search needs)
+    (λ c κs. search needs)
+    (λ c. search needs)
+    (λ c κs. search needs)
     returns)

@@ -1,4 +1,4 @@
--- `stream::ready` meets its contract: the input has ended, enough is held, or the buffer is filled up to its end or the input's. Assumes nothing.
+-- `stream::ready` meets its contract: the input has ended, enough is held, or the buffer is filled up to its end or the input's.
 use mathlib.Core.Path.{refl, sym}
 use mathlib.Core.Bool.{true≢false}
 use native.Mathlib.Omega.{arith}
@@ -11,17 +11,8 @@ use Rattle.stream.proofs.ready.Tie as tie
 returns : tie.Need-returns
 returns c = (refl, (search needs, (refl, (sym (lt-ltb _ _ (c .if1 .taken)), λ f. absurd (true≢false f)))))
 
-sub-if2 : tie.Need-sub-if2
-sub-if2 c = search needs
-
 returns-2 : tie.Need-returns-2
 returns-2 c = (refl, (search needs, (refl, (sym (le-ltb _ _ (c .before .if1 .left)), λ f. c .if2 .taken))))
-
-refill-requires : tie.Need-refill-requires
-refill-requires c κs = search needs
-
-same-length : tie.Need-same-length
-same-length c = search needs
 
 returns-3 : tie.Need-returns-3
 returns-3 c =
@@ -30,4 +21,4 @@ returns-3 c =
     (e .0, (search needs, (e .1 .1, (refl, λ f. omega (arith, ltb-false (r .result) (length (r .last .0)) f)))))
 
 pub ready-spec : {M : Type 1} → statement M
-ready-spec = tie.close (tie.spec returns sub-if2 returns-2 refill-requires same-length returns-3)
+ready-spec = tie.close (tie.spec returns (λ c. search needs) returns-2 (λ c κs. search needs) (λ c. search needs) returns-3)

@@ -1,4 +1,4 @@
--- `terminal::highest_from` meets its contract: by the test for the number of no Lmax. Assumes nothing.
+-- `terminal::highest_from` meets its contract: by the test for the number of no Lmax.
 use borrow.Author.Tests.{eq-eqb, ne-eqb}
 use Rattle.terminal.proofs.highest_from.Statement.{statement}
 use Rattle.terminal.proofs.highest_from.Tie as tie

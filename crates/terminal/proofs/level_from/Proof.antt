@@ -1,4 +1,4 @@
--- `terminal::level_from` meets its contract: by the test for the number of 'below scale'. Assumes nothing.
+-- `terminal::level_from` meets its contract: by the test for the number of 'below scale'.
 use borrow.Author.Tests.{eq-eqb, ne-eqb}
 use Rattle.terminal.proofs.level_from.Statement.{statement}
 use Rattle.terminal.proofs.level_from.Tie as tie

@@ -1,4 +1,4 @@
--- `terminal::mean_of` meets its contract: the total is that of the first `i` records, so at the end that of the records counted. Assumes nothing.
+-- `terminal::mean_of` meets its contract: the total is that of the first `i` records, so at the end that of the records counted.
 use borrow.Author.Needs.{needs}
 use Prim.Native.Nat.{_≤_, _-_}
 use mathlib.Core.Path.{_≡_, _∙_}
@@ -16,15 +16,6 @@ Inv-loop records fewest most counted table total₀ i₀ total i = (i ≤ counte
 abbrev μ-loop : tie.MeasureT-loop
 μ-loop records fewest most counted table total₀ i₀ total i = counted - i
 
-days-counted-requires : tie.Need-days-counted-requires Inv-loop μ-loop
-days-counted-requires c κs = search needs
-
-mantissas-requires : tie.Need-mantissas-requires Inv-loop μ-loop
-mantissas-requires c κs = search needs
-
-no-days-requires : tie.Need-no-days-requires Inv-loop μ-loop
-no-days-requires c κs = search needs
-
 loop-holds : tie.Need-loop-holds Inv-loop μ-loop
 loop-holds c =
     let d = c .before .before .days-counted .ensures in
@@ -36,23 +27,8 @@ loop-holds c =
       c .no-days .ensures ∙ total-none _,
     )
 
-mul-record-level : tie.Need-mul-record-level Inv-loop μ-loop
-mul-record-level c = search needs
-
-shared-slice-read-record-level : tie.Need-shared-slice-read-record-level Inv-loop μ-loop
-shared-slice-read-record-level c = search needs
-
-record-level-requires : tie.Need-record-level-requires Inv-loop μ-loop
-record-level-requires c κs = search needs
-
 with-day-requires : tie.Need-with-day-requires Inv-loop μ-loop
 with-day-requires c κs = let k = c .before .before .before .before in (c .before .before .before .before .before .before .mantissas .ensures, records-readable _ _ (k .loop .inv .3) (omega arith))
-
-add-i : tie.Need-add-i Inv-loop μ-loop
-add-i c = search needs
-
-loop-less : tie.Need-loop-less Inv-loop μ-loop
-loop-less c = search needs
 
 loop-again : tie.Need-loop-again Inv-loop μ-loop
 loop-again c =
@@ -75,16 +51,16 @@ mean-of-spec =
     (tie.spec
     Inv-loop
     μ-loop
-    days-counted-requires
-    mantissas-requires
-    no-days-requires
+    (λ c κs. search needs)
+    (λ c κs. search needs)
+    (λ c κs. search needs)
     loop-holds
-    mul-record-level
-    shared-slice-read-record-level
-    record-level-requires
+    (λ c. search needs)
+    (λ c. search needs)
+    (λ c κs. search needs)
     with-day-requires
-    add-i
-    loop-less
+    (λ c. search needs)
+    (λ c. search needs)
     loop-again
     closed-requires
     returns)

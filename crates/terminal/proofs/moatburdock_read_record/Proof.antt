@@ -1,22 +1,13 @@
--- `terminal::moatburdock_read_record` meets its contract: by the test of the place. Assumes nothing.
+-- `terminal::moatburdock_read_record` meets its contract: by the test of the place.
 use borrow.Author.Tests.{le-leb, lt-leb}
 use borrow.Author.Needs.{needs}
 use Rattle.quantity.specs.Rules.{firstOf}
 use Rattle.terminal.proofs.moatburdock_read_record.Statement.{statement}
 use Rattle.terminal.proofs.moatburdock_read_record.Tie as tie
 
-refusal-number-requires : tie.Need-refusal-number-requires
-refusal-number-requires c κs = search needs
-
 returns : tie.Need-returns
 unfolding firstOf
 returns c = rw (le-leb _ _ (c .before .if1 .taken), c .refusal-number .ensures)
-
-mul-day-record : tie.Need-mul-day-record
-mul-day-record c = search needs
-
-shared-slice-read-day-record : tie.Need-shared-slice-read-day-record
-shared-slice-read-day-record c = search needs
 
 returns-2 : tie.Need-returns-2
 unfolding firstOf
@@ -26,8 +17,8 @@ pub moatburdock-read-record-spec : {M : Type 1} → statement M
 moatburdock-read-record-spec =
     tie.close
     (tie.spec
-    refusal-number-requires
+    (λ c κs. search needs)
     returns
-    mul-day-record
-    shared-slice-read-day-record
+    (λ c. search needs)
+    (λ c. search needs)
     returns-2)

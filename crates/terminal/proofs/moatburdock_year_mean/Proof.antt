@@ -1,18 +1,12 @@
--- `terminal::moatburdock_year_mean` meets its contract: it gives the mean of the records, with 1 and 366. Assumes nothing.
+-- `terminal::moatburdock_year_mean` meets its contract: it gives the mean of the records, with 1 and 366.
 use mathlib.Core.Path.{ap, _∙_}
 use borrow.Author.Needs.{needs}
 use Rattle.terminal.specs.Calls.{meanLeaves}
 use Rattle.terminal.proofs.moatburdock_year_mean.Statement.{statement}
 use Rattle.terminal.proofs.moatburdock_year_mean.Tie as tie
 
-mean-of-requires : tie.Need-mean-of-requires
-mean-of-requires c κs = search needs
-
-give-mean-requires : tie.Need-give-mean-requires
-give-mean-requires c κs = search needs
-
 returns : tie.Need-returns
 returns c = c .give-mean .ensures ∙ ap (meanLeaves _) (c .before .before .mean-of .ensures)
 
 pub moatburdock-year-mean-spec : {M : Type 1} → statement M
-moatburdock-year-mean-spec = tie.close (tie.spec mean-of-requires give-mean-requires returns)
+moatburdock-year-mean-spec = tie.close (tie.spec (λ c κs. search needs) (λ c κs. search needs) returns)

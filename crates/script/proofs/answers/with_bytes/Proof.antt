@@ -1,4 +1,4 @@
--- `script::answers::with_bytes` is safe and ends. Assumes nothing.
+-- `script::answers::with_bytes` is safe and ends.
 use Prim.Native.Nat.{_-_}
 use lib.ListN.{length}
 use borrow.Author.Needs.{needs}

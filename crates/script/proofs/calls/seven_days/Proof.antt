@@ -1,4 +1,4 @@
--- `script::calls::seven_days` is safe and ends. Assumes nothing.
+-- `script::calls::seven_days` is safe and ends.
 use Prim.Native.Nat.{_-_}
 use borrow.Author.Needs.{needs}
 use Rattle.script.proofs.calls.seven_days.Statement.{statement}

@@ -1,4 +1,4 @@
--- `script::calls::year_of_days` is safe and ends. Assumes nothing.
+-- `script::calls::year_of_days` is safe and ends.
 use Prim.Native.Nat.{_-_}
 use borrow.Author.Needs.{needs}
 use Rattle.script.proofs.calls.year_of_days.Statement.{statement}

@@ -1,6 +1,5 @@
 -- `script::lent::rewrite_and_read` is safe: a walk of its code by hand. The array is lent as a `&mut` run for a lifetime that is made for the
 -- call of `rewrite_record`, comes back, is lent as a `&` run for a second lifetime, for the call of `read_record`, and comes back to be freed.
--- Assumes nothing.
 use mathlib.Core.Path.{_≡_, refl, ap, _∙_, subst}
 use Prim.Native.Nat.{ℕ, _<_, _^_}
 use native.Mathlib.Omega.{arith}

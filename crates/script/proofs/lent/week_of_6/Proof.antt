@@ -1,4 +1,4 @@
--- `script::lent::week_of_6` is safe: it lends its 6 days to `week_mean`. Assumes nothing.
+-- `script::lent::week_of_6` is safe: it lends its 6 days to `week_mean`.
 use lib.Dec.{lit≤}
 use contract.Running.{givenOf, tables, tablesOf}
 use denote.Triple.Spec.{tripleOf}

@@ -1,4 +1,4 @@
--- `script::lent::week_of_7` is safe: it lends its 7 days to `week_mean`. Assumes nothing.
+-- `script::lent::week_of_7` is safe: it lends its 7 days to `week_mean`.
 use lib.Dec.{lit≤}
 use contract.Running.{givenOf, tables, tablesOf}
 use denote.Triple.Spec.{tripleOf}

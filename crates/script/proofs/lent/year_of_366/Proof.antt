@@ -1,4 +1,4 @@
--- `script::lent::year_of_366` is safe: it lends its 366 days to `year_mean`. Assumes nothing.
+-- `script::lent::year_of_366` is safe: it lends its 366 days to `year_mean`.
 use lib.Dec.{lit≤}
 use contract.Running.{givenOf, tables, tablesOf}
 use denote.Triple.Spec.{tripleOf}

@@ -1,4 +1,4 @@
--- `script::words::copy_numbers` is safe and ends: the room stays as it is. Assumes nothing.
+-- `script::words::copy_numbers` is safe and ends: the room stays as it is.
 use mathlib.Core.Path.{_≡_}
 use Prim.Native.Nat.{_-_}
 use lib.ListN.{length}

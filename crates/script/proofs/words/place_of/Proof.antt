@@ -1,4 +1,4 @@
--- `script::words::place_of` meets its contract: the search goes on from the place. Assumes nothing.
+-- `script::words::place_of` meets its contract: the search goes on from the place.
 use Prim.Native.Nat.{_-_, _≤_}
 use lib.ListN.{length}
 use borrow.Author.Needs.{needs}

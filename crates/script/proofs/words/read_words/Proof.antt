@@ -1,4 +1,4 @@
--- `script::words::read_words` is safe and ends. Assumes nothing.
+-- `script::words::read_words` is safe and ends.
 use mathlib.Core.Path.{_≡_}
 use Prim.Native.Nat.{_-_}
 use lib.ListN.{length}
