@@ -33,8 +33,8 @@ use quantity::Check;
 use quantity::DayAnswer;
 use quantity::HighestLevel;
 use quantity::Level;
-use quantity::LevelAnswer;
 use quantity::Method;
+use quantity::Reading;
 use quantity::Refusal;
 
 // What closing reports: Ldn and its method, the accepted events by day and by night, and the highest Lmax.
@@ -262,7 +262,7 @@ fn weighted_sum(daytime: [u32; 4], night: [u32; 4], day_weight: u32, night_weigh
 }
 
 // The level of a day's energies, by the weights, the divisor and the offset of a method.
-fn ldn(day: Day, day_weight: u32, night_weight: u32, divisor: u32, offset: u32) -> LevelAnswer
+fn ldn(day: Day, day_weight: u32, night_weight: u32, divisor: u32, offset: u32) -> Reading
     requires { ⌜ 0 < divisor ⌝ }
     ensures { λ r. ⌜ reading r ≡ levelOf offset divisor («day_weight» * value (day .daytime .sum) + «night_weight» * value (day .night .sum)) ⌝ }
 {

@@ -27,7 +27,7 @@ ghost use Rattle.land.specs.Verdict.{
 };
 use quantity::HighestLevel;
 use quantity::Level;
-use quantity::LevelAnswer;
+use quantity::Reading;
 use quantity::Refusal;
 
 // The classes of land use, I to IV.
@@ -152,12 +152,12 @@ pub fn limit_of(class: LandClass) -> Limit
 }
 
 // Whether a year's level exceeds a bound.
-fn yearly_exceeds(yearly: LevelAnswer, bound: u32) -> bool
+fn yearly_exceeds(yearly: Reading, bound: u32) -> bool
     ensures { λ r. ⌜ r ≡ exceeds (inScale (reading yearly)) bound ⌝ }
 {
     match yearly {
-        LevelAnswer::At(level) => bound < level.0,
-        LevelAnswer::BelowScale => false,
+        Reading::At(level) => bound < level.0,
+        Reading::BelowScale => false,
     }
 }
 
@@ -224,15 +224,15 @@ fn named(level: bool, maximum: bool) -> Finding
 }
 
 // The margin of a year's level to a limit, both at most 20000.
-fn margin_of(limit: Limit, yearly: LevelAnswer) -> Margin
+fn margin_of(limit: Limit, yearly: Reading) -> Margin
     requires { ⌜ (exceeds (limitReading limit) 20000 ≡ false) × (exceeds (inScale (reading yearly)) 20000 ≡ false) ⌝ }
     ensures { λ r. ⌜ marginReading r ≡ marginOf (limitReading limit) (inScale (reading yearly)) ⌝ }
 {
     match limit {
         Limit::Nothing => Margin::Nothing,
         Limit::At(most) => match yearly {
-            LevelAnswer::At(level) => Margin::Of(difference(most.0, level.0)),
-            LevelAnswer::BelowScale => Margin::Nothing,
+            Reading::At(level) => Margin::Of(difference(most.0, level.0)),
+            Reading::BelowScale => Margin::Nothing,
         },
     }
 }
@@ -250,7 +250,7 @@ fn finding_of(limit: Limit, margin: Margin, maximum: bool) -> Finding
 // The verdict on land of a class.
 fn assess(
     class: LandClass,
-    yearly: LevelAnswer,
+    yearly: Reading,
     sensitive: bool,
     highest: HighestLevel,
 ) -> VerdictAnswer
@@ -271,7 +271,7 @@ fn assess(
 // The verdict on land whose class was looked up: a refusal there comes first.
 fn verdict_on(
     land: LandClassAnswer,
-    yearly: LevelAnswer,
+    yearly: Reading,
     sensitive: bool,
     highest: HighestLevel,
 ) -> VerdictAnswer
@@ -284,12 +284,7 @@ fn verdict_on(
 }
 
 // The verdict on land of the class with this number, for a year's level, a sensitive building or none, and the highest Lmax.
-pub fn verdict(
-    class: u8,
-    yearly: LevelAnswer,
-    sensitive: bool,
-    highest: HighestLevel,
-) -> VerdictAnswer
+pub fn verdict(class: u8, yearly: Reading, sensitive: bool, highest: HighestLevel) -> VerdictAnswer
     ensures { λ r. ⌜ verdictReading r ≡ verdictOf class (reading yearly) sensitive (highestReading highest) ⌝ }
 {
     verdict_on(class_numbered(class), yearly, sensitive, highest)
@@ -299,7 +294,7 @@ pub fn verdict(
 pub fn verdict_of_code(
     letter: u8,
     digit: u8,
-    yearly: LevelAnswer,
+    yearly: Reading,
     sensitive: bool,
     highest: HighestLevel,
 ) -> VerdictAnswer

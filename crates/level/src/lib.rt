@@ -7,7 +7,7 @@ ghost use Rattle.limbs.specs.Value.{value};
 ghost use Rattle.level.specs.Level.{levelOf};
 ghost use Rattle.level.specs.Leading.{Leads, Found, lowered};
 use quantity::Level;
-use quantity::LevelAnswer;
+use quantity::Reading;
 
 // A number cut to its leading digits, and the count of decimal digits that were left out.
 pub struct Leading {
@@ -49,7 +49,7 @@ fn ten_digits(number: Leading) -> Leading
 }
 
 // The level of a number of which the leading digits are given.
-pub fn level_of_leading(table: &[u64; 1000], number: Leading) -> LevelAnswer
+pub fn level_of_leading(table: &[u64; 1000], number: Leading) -> Reading
     requires { ⌜ IsTable (now table) × (number .tens ≤ 100) ⌝ }
     ensures { λ r. ⌜ ((n : ℕ) → Leads n (number .digits) (number .tens) → reading r ≡ levelOf 0 1 n) ⌝ }
 {
@@ -57,22 +57,22 @@ pub fn level_of_leading(table: &[u64; 1000], number: Leading) -> LevelAnswer
     let digits = short.digits;
     let tens = short.tens;
     if digits < 1000000000 {
-        return LevelAnswer::BelowScale;
+        return Reading::BelowScale;
     }
-    LevelAnswer::At(Level(1000 * tens + mantissa_place(table, digits)))
+    Reading::At(Level(1000 * tens + mantissa_place(table, digits)))
 }
 
 // A level less an offset, or below scale.
-fn lowered_by(answer: LevelAnswer, offset: u32) -> LevelAnswer
+fn lowered_by(answer: Reading, offset: u32) -> Reading
     ensures { λ r. ⌜ reading r ≡ lowered offset (reading answer) ⌝ }
 {
     match answer {
-        LevelAnswer::At(level) => if offset <= level.0 {
-            LevelAnswer::At(Level(level.0 - offset))
+        Reading::At(level) => if offset <= level.0 {
+            Reading::At(Level(level.0 - offset))
         } else {
-            LevelAnswer::BelowScale
+            Reading::BelowScale
         },
-        LevelAnswer::BelowScale => LevelAnswer::BelowScale,
+        Reading::BelowScale => Reading::BelowScale,
     }
 }
 
@@ -95,7 +95,7 @@ fn leading_quotient(sum: [u32; 6], divisor: u32) -> Leading
 }
 
 // The level of a sum over a divisor, with an offset on the table.
-pub fn level_over(sum: [u32; 6], divisor: u32, offset: u32) -> LevelAnswer
+pub fn level_over(sum: [u32; 6], divisor: u32, offset: u32) -> Reading
     requires { ⌜ 0 < divisor ⌝ }
     ensures { λ r. ⌜ reading r ≡ levelOf offset divisor (value sum) ⌝ }
 {

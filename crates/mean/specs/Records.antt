@@ -5,7 +5,7 @@ use lib.Dec.{leb}
 use lib.ListN.{length, getD, set}
 use Rattle.quantity.specs.Answers.{Reading, level, reading, methodNumber, refusalNumber}
 use Rattle.quantity.specs.Rules.{Rule, firstOf}
-use Rattle.quantity.specs.declared.LevelAnswer.the-variants.{At}
+use Rattle.quantity.specs.declared.Reading.the-variants.{At}
 use Rattle.quantity.specs.declared.Method.the-variants.{One}
 use Rattle.quantity.specs.declared.DayAnswer.{DayAnswer}
 use Rattle.mean.specs.Mean.{isTooHigh}

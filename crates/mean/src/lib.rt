@@ -12,7 +12,7 @@ ghost use Rattle.mean.specs.Total.{noDays, withDay, withRead, daysCounte
 use quantity::Check;
 use quantity::DayAnswer;
 use quantity::Level;
-use quantity::LevelAnswer;
+use quantity::Reading;
 use quantity::Refusal;
 
 // No day's level is above it.
@@ -20,7 +20,7 @@ const HIGHEST_DAY: u32 = 20000;
 
 // A mean, or why it is refused.
 pub enum MeanAnswer {
-    Mean(LevelAnswer),
+    Mean(Reading),
     Refused(Refusal),
 }
 
@@ -37,12 +37,12 @@ pub struct Total {
 }
 
 // Refusal 14: a day's level is too high.
-pub fn is_too_high(level: LevelAnswer) -> bool
+pub fn is_too_high(level: Reading) -> bool
     ensures { λ r. ⌜ r ≡ isTooHigh (reading level) ⌝ }
 {
     match level {
-        LevelAnswer::At(at) => HIGHEST_DAY < at.0,
-        LevelAnswer::BelowScale => false,
+        Reading::At(at) => HIGHEST_DAY < at.0,
+        Reading::BelowScale => false,
     }
 }
 
@@ -67,13 +67,13 @@ pub fn no_days() -> Total
 }
 
 // A total with one day's level more.
-pub fn with_day(table: &[u64; 1000], total: Total, level: LevelAnswer) -> Total
+pub fn with_day(table: &[u64; 1000], total: Total, level: Reading) -> Total
     requires { ⌜ IsTable (now table) × Readable (total .sums) ⌝ }
     ensures { λ r. ⌜ r ≡ withDay total (reading level) ⌝ }
 {
     let sums = total.sums;
     match level {
-        LevelAnswer::At(at) => if HIGHEST_DAY < at.0 {
+        Reading::At(at) => if HIGHEST_DAY < at.0 {
             Total { sums, high: true }
         } else {
             Total {
@@ -81,7 +81,7 @@ pub fn with_day(table: &[u64; 1000], total: Total, level: LevelAnswer) -> Total
                 high: total.high,
             }
         },
-        LevelAnswer::BelowScale => total,
+        Reading::BelowScale => total,
     }
 }
 

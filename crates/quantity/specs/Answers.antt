@@ -1,8 +1,8 @@
 -- What each case of an answer stands for in document 01: its number, or its value.
 use mathlib.Core.Option.{Option, some, none}
 use Prim.Native.Nat.{ℕ}
-use Rattle.quantity.specs.declared.LevelAnswer.{LevelAnswer}
-use Rattle.quantity.specs.declared.LevelAnswer.the-variants as levels
+use Rattle.quantity.specs.declared.Reading as declared
+use Rattle.quantity.specs.declared.Reading.the-variants as readings
 use Rattle.quantity.specs.declared.HighestLevel.{HighestLevel}
 use Rattle.quantity.specs.declared.HighestLevel.the-variants as highests
 use Rattle.quantity.specs.declared.Method.{Method}
@@ -11,15 +11,16 @@ use Rattle.quantity.specs.declared.Check.{Check}
 use Rattle.quantity.specs.declared.Check.the-variants.{Passed, Refused}
 use Rattle.quantity.specs.declared.Refusal.{Refusal}
 use Rattle.quantity.specs.declared.Refusal.the-variants as refusals
+use Rattle.quantity.specs.Rules.{Outcome, refused, given}
 
 -- 'Powers': a level in hundredths of a decibel, or 'below scale'
 pub data Reading : Type 0 where
   level : ℕ → Reading
   below-scale : Reading
 
-abbrev pub reading : LevelAnswer → Reading
-reading (levels.At l) = level (l .0)
-reading levels.BelowScale = below-scale
+abbrev pub reading : declared.Reading → Reading
+reading (readings.At l) = level (l .0)
+reading readings.BelowScale = below-scale
 
 -- 'Day': the highest Lmax, or none without events
 abbrev pub highestReading : HighestLevel → Option ℕ
@@ -55,3 +56,8 @@ refusalNumber refusals.FileTooLong = 17
 abbrev pub checkNumber : Check → ℕ
 checkNumber Passed = 0
 checkNumber (Refused r) = refusalNumber r
+
+-- the same as an outcome: passed, or the number of the refusal
+abbrev pub checkOutcome : Check → Outcome Unit
+checkOutcome Passed = given tt
+checkOutcome (Refused r) = refused (refusalNumber r)

@@ -1,3 +1,4 @@
--- What every crate cites: the numbers and values of the answers, and tables of refusals.
-pub mod Answers
+-- What every crate cites: tables of refusals and outcomes, the numbers and values of the answers, and the limits of levels.
 pub mod Rules
+pub mod Answers
+pub mod Limits

@@ -22,3 +22,8 @@ pub data Outcome (A : Type 0) : Type 0 where
 abbrev pub outcome : {A : Type 0} → ℕ → A → Outcome A
 outcome zero a = given a
 outcome (suc n) a = refused (suc n)
+
+-- what follows a refusal, and what follows a value
+abbrev pub follow : {A B : Type 0} → Outcome A → (ℕ → B) → (A → B) → B
+follow (refused n) onRefusal onValue = onRefusal n
+follow (given a) onRefusal onValue = onValue a

@@ -23,7 +23,7 @@ use closing::CloseAnswer;
 use closing::Closing;
 use ledger::OfferAnswer;
 use quantity::HighestLevel;
-use quantity::LevelAnswer;
+use quantity::Reading;
 use quantity::Refusal;
 
 // Puts some bytes behind those that a line has, and gives their number with these. What lies further behind stays.
@@ -64,14 +64,14 @@ fn put_number(line: &mut [u8; 64], at: usize, n: u32) -> usize
 }
 
 // Puts a level, or '-' for below scale.
-fn put_level(line: &mut [u8; 64], at: usize, answer: LevelAnswer) -> usize
+fn put_level(line: &mut [u8; 64], at: usize, answer: Reading) -> usize
     requires { ⌜ at + 11 ≤ 64 ⌝ }
     ensures { λ r. ⌜ take r (now (line .exit)) ≡ take at (now (line .entry)) ++ spaced (readingText (reading answer) ∷ []) ⌝ }
     ensures size { λ r. ⌜ r ≤ at + 11 ⌝ }
 {
     match answer {
-        LevelAnswer::At(level) => put_number(line, at, level.0),
-        LevelAnswer::BelowScale => put_letter(line, at, b'-'),
+        Reading::At(level) => put_number(line, at, level.0),
+        Reading::BelowScale => put_letter(line, at, b'-'),
     }
 }
 

@@ -10,7 +10,7 @@ use ledger::OfferAnswer;
 use mean::MeanAnswer;
 use mean::ReadAnswer;
 use quantity::Check;
-use quantity::LevelAnswer;
+use quantity::Reading;
 use quantity::Refusal;
 
 // Some text: the bytes up to the count.
@@ -74,10 +74,10 @@ fn with_refusal(text: Text, refusal: Refusal) -> Text {
     )
 }
 
-fn with_level(text: Text, level: LevelAnswer) -> Text {
+fn with_level(text: Text, level: Reading) -> Text {
     match level {
-        LevelAnswer::At(at) => with_number(text, at.0 as u64),
-        LevelAnswer::BelowScale => with_letter(text, b'-'),
+        Reading::At(at) => with_number(text, at.0 as u64),
+        Reading::BelowScale => with_letter(text, b'-'),
     }
 }
 

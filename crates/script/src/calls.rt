@@ -9,8 +9,8 @@ use ledger::Recording;
 use quantity::DayAnswer;
 use quantity::HighestLevel;
 use quantity::Level;
-use quantity::LevelAnswer;
 use quantity::Method;
+use quantity::Reading;
 use quantity::Time;
 
 // A call has at most this many numbers.
@@ -22,11 +22,11 @@ pub struct Made {
     pub came: Text,
 }
 
-fn level_of(number: u32) -> LevelAnswer {
+fn level_of(number: u32) -> Reading {
     if number == words::NONE {
-        return LevelAnswer::BelowScale;
+        return Reading::BelowScale;
     }
-    LevelAnswer::At(Level(number))
+    Reading::At(Level(number))
 }
 
 fn highest_of(number: u32) -> HighestLevel {

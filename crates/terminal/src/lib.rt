@@ -42,8 +42,8 @@ use mean::MeanAnswer;
 use quantity::Check;
 use quantity::HighestLevel;
 use quantity::Level;
-use quantity::LevelAnswer;
 use quantity::Method;
+use quantity::Reading;
 use quantity::Refusal;
 use quantity::Time;
 
@@ -56,21 +56,21 @@ const NO_MARGIN: i32 = 2147483647;
 // Where the method of a record begins.
 const UPPER: u64 = 4294967296;
 
-fn level_from(n: u32) -> LevelAnswer
+fn level_from(n: u32) -> Reading
     ensures { λ r. ⌜ reading r ≡ levelFrom n ⌝ }
 {
     if n == NOTHING {
-        return LevelAnswer::BelowScale;
+        return Reading::BelowScale;
     }
-    LevelAnswer::At(Level(n))
+    Reading::At(Level(n))
 }
 
-fn level_number(level: LevelAnswer) -> u32
+fn level_number(level: Reading) -> u32
     ensures { λ r. ⌜ r ≡ levelNumber (reading level) ⌝ }
 {
     match level {
-        LevelAnswer::At(at) => at.0,
-        LevelAnswer::BelowScale => NOTHING,
+        Reading::At(at) => at.0,
+        Reading::BelowScale => NOTHING,
     }
 }
 
@@ -93,14 +93,14 @@ fn highest_number(highest: HighestLevel) -> u32
 }
 
 // The level of a record.
-fn record_level(day_record: u64) -> LevelAnswer
+fn record_level(day_record: u64) -> Reading
     ensures { λ r. ⌜ reading r ≡ recordLevel day_record ⌝ }
 {
     level_from((day_record % UPPER) as u32)
 }
 
 // The record of a day's answer.
-fn record_of(ldn: LevelAnswer, method: Method) -> u64
+fn record_of(ldn: Reading, method: Method) -> u64
     ensures { λ r. ⌜ r ≡ recordNumber (reading ldn) (methodNumber method) ⌝ }
 {
     level_number(ldn) as u64 + UPPER * (quantity::method_number(method) as u64)

@@ -1,0 +1,10 @@
+-- Document 01, 'Refused calls': the limits that more than one call is held to.
+use Prim.Native.Nat.{ℕ}
+
+-- 4: no sample, no background and no Lmax is above it
+abbrev pub highestSample : ℕ
+highestSample = 14000
+
+-- 14: no day's and no year's level is above it
+abbrev pub highestDayLevel : ℕ
+highestDayLevel = 20000
