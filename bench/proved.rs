@@ -3,24 +3,29 @@ use crate::{Ledger, Offer};
 
 const NOTHING: u32 = u32::MAX;
 
-#[link(name = "terminal", kind = "static")]
+// A day as it is lent: MOATBURDOCK_DAY_WORDS of include/moatburdock.h. The library that is linked is named in bench/run.
+type Cell = u32;
+const CELLS: usize = 320;
+
 extern "C" {
-    fn moatburdock_open_day(day: *mut u8, daytime: *const u16, classes: usize, night: *const u16, others: usize) -> u8;
-    fn moatburdock_offer(day: *mut u8, start: u32, class: u8, wind: u16, wet: bool, background: u32, samples: *const u16, count: usize, exposure: *mut u32,
+    fn moatburdock_open_day(day: *mut Cell, daytime: *const u16, classes: usize, night: *const u16, others: usize) -> u8;
+    fn moatburdock_offer(day: *mut Cell, start: u32, class: u8, wind: u16, wet: bool, background: u32, samples: *const u16, count: usize, exposure: *mut u32,
         lmax: *mut u32) -> u8;
-    fn moatburdock_close_day(day: *const u8, before: u32, after: u32, record: *mut u64, counts: *mut u32) -> u8;
+    fn moatburdock_close_day(day: *const Cell, before: u32, after: u32, record: *mut u64, counts: *mut u32) -> u8;
     fn moatburdock_year_mean(records: *const u64, count: usize, level: *mut u32) -> u8;
 }
 
-pub struct Day([u8; 172]);
+pub struct Day([Cell; CELLS]);
 
 fn level(n: u32) -> Option<u32> {
     if n == NOTHING { None } else { Some(n) }
 }
 
 impl Ledger for Day {
+    type Year = Vec<u64>;
+
     fn open(daytime: &[u16], night: &[u16]) -> Self {
-        let mut day = [0; 172];
+        let mut day = [0; CELLS];
         unsafe { moatburdock_open_day(day.as_mut_ptr(), daytime.as_ptr(), daytime.len(), night.as_ptr(), night.len()) };
         Day(day)
     }
@@ -39,8 +44,11 @@ impl Ledger for Day {
         if answer == 0 { Ok(level(record as u32)) } else { Err(answer) }
     }
 
-    fn year(levels: &[Option<u32>]) -> Option<u32> {
-        let records: Vec<u64> = levels.iter().map(|l| (1 << 32) + l.unwrap_or(NOTHING) as u64).collect();
+    fn year_of(levels: &[Option<u32>]) -> Vec<u64> {
+        levels.iter().map(|l| (1 << 32) + l.unwrap_or(NOTHING) as u64).collect()
+    }
+
+    fn mean(records: &Vec<u64>) -> Option<u32> {
         let mut mean = 0;
         unsafe { moatburdock_year_mean(records.as_ptr(), records.len(), &mut mean) };
         level(mean)

@@ -13,7 +13,7 @@ int main(void) {
     const uint16_t daytime[] = {1}, night[] = {1};
     const uint16_t samples[] = {6000, 8000, 8000, 8000, 6000};
     const uint32_t starts[] = {432000, 800000};
-    uint8_t day[MOATBURDOCK_DAY_BYTES] = {0};
+    uint32_t day[MOATBURDOCK_DAY_WORDS] = {0};
 
     if (failed("opening", moatburdock_open_day(day, daytime, 1, night, 1)))
         return 1;

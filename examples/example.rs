@@ -1,10 +1,10 @@
 // Opens a day, offers two fly-overs, closes it, and forms a year of such days. Built and run by examples/run_rust.
-#[link(name = "terminal", kind = "static")]
+#[link(name = "moatburdock", kind = "static")]
 extern "C" {
-    fn moatburdock_open_day(day: *mut u8, daytime: *const u16, classes: usize, night: *const u16, others: usize) -> u8;
-    fn moatburdock_offer(day: *mut u8, start: u32, class: u8, wind: u16, wet: bool, background: u32, samples: *const u16, count: usize,
+    fn moatburdock_open_day(day: *mut u32, daytime: *const u16, classes: usize, night: *const u16, others: usize) -> u8;
+    fn moatburdock_offer(day: *mut u32, start: u32, class: u8, wind: u16, wet: bool, background: u32, samples: *const u16, count: usize,
         exposure: *mut u32, lmax: *mut u32) -> u8;
-    fn moatburdock_close_day(day: *const u8, before: u32, after: u32, record: *mut u64, counts: *mut u32) -> u8;
+    fn moatburdock_close_day(day: *const u32, before: u32, after: u32, record: *mut u64, counts: *mut u32) -> u8;
     fn moatburdock_year_mean(records: *const u64, count: usize, level: *mut u32) -> u8;
 }
 
@@ -17,11 +17,11 @@ fn checked(answer: u8) -> Result<(), Refused> {
 }
 
 /// A day, in memory of its own.
-struct Day([u8; 172]);
+struct Day([u32; 320]);
 
 impl Day {
     fn open(daytime: &[u16], night: &[u16]) -> Result<Day, Refused> {
-        let mut day = [0; 172];
+        let mut day = [0; 320];
         checked(unsafe { moatburdock_open_day(day.as_mut_ptr(), daytime.as_ptr(), daytime.len(), night.as_ptr(), night.len()) })?;
         Ok(Day(day))
     }

@@ -1,16 +1,17 @@
 /* Moatburdock: the ledger of an airport noise terminal, proved.
  *
- * Link with target/staticlib/libterminal.a, which `rt staticlib terminal` writes. The library keeps nothing between calls, allocates nothing and calls
- * nothing but memcpy: all that it reads and writes is what it is lent here. The example in C takes 20 kB of stack, all told.
+ * Link with target/staticlib/libmoatburdock.a, which tools/c_library writes. The library keeps nothing between calls, allocates nothing and calls
+ * nothing but memcpy and memset: all that it reads and writes is what it is lent here. The example in C takes 20 kB of stack, all told; a step of the
+ * reader takes 34 kB.
  *
  * Levels are hundredths of a decibel, times tenths of a second after local midnight, wind tenths of m/s.
  *
- * Every function answers 0, or the number of the refusal. A refused call leaves all that it was lent as it was; only a refused opening writes the
- * day, as one of no class, on which every offer is refused. Of the arguments only this is required: pointers to as many elements as are stated, all
- * of them initialised, and none that is written through overlaps another argument of the call. Any bytes make a day.
+ * Every function but the two of the reader answers 0, or the number of the refusal. A refused call leaves all that it was lent as it was. Of the arguments
+ * only this is required: pointers to as many elements as are stated, all of them initialised, and none that is written through overlaps another
+ * argument of the call. Any words make a day; words that are all 0 make a day of no class, on which every offer is refused by 3 and every closing by 12.
  *
- * What each function computes is an equation that is proved for every argument: crates/terminal/specs/Calls.antt, over the definitions of
- * crates/ledger, closing, mean and land. */
+ * What each function computes is an equation that is proved for every argument: crates/c_interface/specs/Calls.antt, over the definitions of
+ * crates/ledger, closing, mean and land; of the reader crates/c_reader/specs/Calls.antt, over those of crates/steps. */
 #ifndef MOATBURDOCK_H
 #define MOATBURDOCK_H
 
@@ -22,8 +23,8 @@
 extern "C" {
 #endif
 
-/* The bytes of a day. Copy them as you like; they hold no pointers. */
-#define MOATBURDOCK_DAY_BYTES 172
+/* The words of a day. Copy them as you like; they hold no pointers. Those that no field uses yet are 0. */
+#define MOATBURDOCK_DAY_WORDS 320
 
 /* Stands for 'below scale' where a level is given or taken, and for no Lmax. */
 #define MOATBURDOCK_NOTHING UINT32_MAX
@@ -52,7 +53,9 @@ enum moatburdock_refusal {
     MOATBURDOCK_NO_METHOD,              /* neither method's conditions hold */
     MOATBURDOCK_DAY_COUNT,              /* a wrong number of days, or a place that is not there */
     MOATBURDOCK_RECORD_LEVEL_TOO_HIGH,  /* a day's or a year's level above 20000 */
-    MOATBURDOCK_LAND_UNKNOWN            /* no class 1 to 4, or no such land code */
+    MOATBURDOCK_LAND_UNKNOWN,           /* no class 1 to 4, or no such land code */
+    MOATBURDOCK_FILE_FAULT,             /* a day file ends early, its calibration count is not 2, or an event has more than 6000 samples */
+    MOATBURDOCK_FILE_TOO_LONG           /* bytes behind the last event of a day file */
 };
 
 /* What a verdict names. */
@@ -64,18 +67,18 @@ enum moatburdock_finding {
     MOATBURDOCK_NO_LIMIT
 };
 
-/* Opens a day on a book: for each class the flights by day (06:00 to 22:00) and by night. Refusal 10. */
-uint8_t moatburdock_open_day(uint8_t day[MOATBURDOCK_DAY_BYTES], const uint16_t *daytime, size_t daytime_classes, const uint16_t *night,
+/* Opens a day on a book: for each class the flights by day (06:00 to 22:00) and by night. Refusal 10, which leaves the day as it was. */
+uint8_t moatburdock_open_day(uint32_t day[MOATBURDOCK_DAY_WORDS], const uint16_t *daytime, size_t daytime_classes, const uint16_t *night,
                              size_t night_classes);
 
 /* Offers a fly-over: a window of A-levels, ten a second, that begins at start. Accepted, it is added to the day, and the exposure level LAE (or
  * MOATBURDOCK_NOTHING) and Lmax are given. Refusals 1 to 9, the first in their order that holds. */
-uint8_t moatburdock_offer(uint8_t day[MOATBURDOCK_DAY_BYTES], uint32_t start, uint8_t flight_class, uint16_t wind, bool wet, uint32_t background,
+uint8_t moatburdock_offer(uint32_t day[MOATBURDOCK_DAY_WORDS], uint32_t start, uint8_t flight_class, uint16_t wind, bool wet, uint32_t background,
                           const uint16_t *samples, size_t sample_count, uint32_t *exposure, uint32_t *lmax);
 
 /* Closes a day, with the calibration levels before and after it: gives the day's record (Ldn and its method), and in counts the events by day, those
  * by night, and the highest Lmax (or MOATBURDOCK_NOTHING). The day is read and not changed; more offers may follow. Refusals 11, then 12. */
-uint8_t moatburdock_close_day(const uint8_t day[MOATBURDOCK_DAY_BYTES], uint32_t before, uint32_t after, uint64_t *day_record, uint32_t counts[3]);
+uint8_t moatburdock_close_day(const uint32_t day[MOATBURDOCK_DAY_WORDS], uint32_t before, uint32_t after, uint64_t *day_record, uint32_t counts[3]);
 
 /* The mean of a week, of exactly 7 records, and of a year, of 1 to 366 (formulas 6-5 and 6-6): a level, or MOATBURDOCK_NOTHING. A record below scale
  * adds nothing and counts as a day. Refusals 13, then 14. */
@@ -92,6 +95,40 @@ uint8_t moatburdock_verdict(uint8_t land_class, uint32_t yearly, bool sensitive,
 
 /* The class of a land code, a capital letter and a digit as ASCII. Refusal 15. */
 uint8_t moatburdock_land_class(uint8_t letter, uint8_t digit, uint8_t *land_class);
+
+/* The reader of day files, from any transport and in whatever pieces the file comes. */
+
+/* The words of a reader: the first MOATBURDOCK_DAY_WORDS are its day, which every function on a day takes. Copy them as you like. Any words make a
+ * reader; an opened reader has words that are all 0. */
+#define MOATBURDOCK_READER_WORDS 336
+
+/* The bytes of the longest event: a step on a window of as many never asks for more. */
+#define MOATBURDOCK_LONGEST_RECORD 12012
+
+/* The numbers of a step, and the bytes of a line. */
+#define MOATBURDOCK_STEP_NUMBERS 6
+#define MOATBURDOCK_LINE_BYTES 64
+
+/* What came of a step, with its numbers. The first is 0 or the number of a refusal; those that are not named are 0. */
+enum moatburdock_came {
+    MOATBURDOCK_MORE = 0,               /* the window holds too little, and the file goes on: nothing is used up */
+    MOATBURDOCK_STARTED,                /* what stands before the events is read */
+    MOATBURDOCK_EVENT,                  /* 0 or refusal 1 to 9, the event's number from 1; where it is accepted LAE (or MOATBURDOCK_NOTHING), Lmax */
+    MOATBURDOCK_CLOSED,                 /* 0 or refusal 11 or 12; where it is closed Ldn (or MOATBURDOCK_NOTHING), the method, the events by day, those by
+                                           night, the highest Lmax (or MOATBURDOCK_NOTHING) */
+    MOATBURDOCK_FAULT,                  /* refusal 10, 16 or 17; the reader's day is that of the events before the fault */
+    MOATBURDOCK_DONE                    /* the day was closed or a fault met at an earlier step */
+};
+
+/* Opens a reader on a file of which nothing is read. */
+void moatburdock_open_reader(uint32_t reader[MOATBURDOCK_READER_WORDS]);
+
+/* A step of a reader. The window holds the bytes of the file that are not used up yet, as many as there are at hand; ended says that the file ends with
+ * them. Answers what came, and gives how many bytes of the window are used up, the numbers of what came, and the bytes of its line as the day program
+ * prints it, with its end: none for MORE, STARTED and DONE. The rest of the line stays as it was. However the file is cut, steps up to the first
+ * answer of MOATBURDOCK_CLOSED or more give the lines of the whole file. */
+uint8_t moatburdock_read_step(uint32_t reader[MOATBURDOCK_READER_WORDS], const uint8_t *window, size_t window_size, bool ended, size_t *used,
+                              uint32_t numbers[MOATBURDOCK_STEP_NUMBERS], uint8_t line[MOATBURDOCK_LINE_BYTES], size_t *line_size);
 
 #ifdef __cplusplus
 }

@@ -1,6 +1,6 @@
 -- The relation between tally and day: the day is the one that the tally gives, and the tally keeps its bounds. A fresh day has it.
 use mathlib.Core.Path.{_≡_, refl, sym}
-use mathlib.Core.Bool.{Bool, true, false}
+use mathlib.Core.Bool.{Bool, true, false, not, _||_}
 use mathlib.Core.List.{List, [], _∷_}
 use Prim.Native.Nat.{ℕ, _*_, _≤_, zero-le}
 use native.Mathlib.Nat.{le-trans}
@@ -9,6 +9,7 @@ use borrow.Author.Needs.{needs}
 use borrow.Author.Tests.{eqb-true, eqb-false, ltb-false, not-false}
 use lib.Dec.{eqb, ltb}
 use lib.ListN.{length, getD, length-replicate}
+use Rattle.quantity.specs.Limits.{highestSample}
 use Rattle.quantity.specs.Rules.{firstOf}
 use Rattle.quantity.specs.declared.HighestLevel.{HighestLevel}
 use Rattle.quantity.specs.declared.HighestLevel.the-variants as highests
@@ -20,7 +21,7 @@ use Rattle.event.specs.Clock.{dayTicks}
 use Rattle.event.specs.Window.{highest}
 use Rattle.ledger.specs.Book.{mostClasses, sumOf, padded, bookRules}
 use Rattle.ledger.specs.Day.{freshDay, periodOf}
-use Rattle.ledger.specs.Offer.{raised, highestSample}
+use Rattle.ledger.specs.Offer.{raised}
 use Rattle.ledger.specs.declared.Period.{Period}
 use Rattle.ledger.specs.declared.Day.{Day}
 use Rattle.accuracy.specs.Tally.{Held, Tally, bookOf, started}
@@ -33,21 +34,21 @@ use Rattle.accuracy.proofs.Sums.{heldEnergy, period-part, day-fits}
 abbrev pub periodOfParts : List ℕ → List ℕ → ℕ → Period
 periodOfParts book count S = record { booked = padded mostClasses book; accepted = padded mostClasses count; sum = limbsOf 4 S }
 
-abbrev pub periodFrom : Tally → Bool → Period
-periodFrom t p = periodOfParts (t .book p) (t .count p) (periodEnergy p (t .stretches))
+abbrev pub periodOfTally : Tally → Bool → Period
+periodOfTally t p = periodOfParts (t .book p) (t .count p) (periodEnergy p (t .stretches))
 
-abbrev pub highestFrom : List Held → HighestLevel
-highestFrom [] = highests.Nothing
-highestFrom (h ∷ hs) = raised (highestFrom hs) (record { 0 = highest (h .levels) })
+abbrev pub highestOfStretches : List Held → HighestLevel
+highestOfStretches [] = highests.Nothing
+highestOfStretches (h ∷ hs) = raised (highestOfStretches hs) (record { 0 = highest (h .levels) })
 
-abbrev pub dayFrom : Tally → Day
-dayFrom t =
+abbrev pub dayOfTally : Tally → Day
+dayOfTally t =
     record {
       classes = length (t .book true);
-      daytime = periodFrom t true;
-      night = periodFrom t false;
+      daytime = periodOfTally t true;
+      night = periodOfTally t false;
       end = record { 0 = t .end };
-      highest = highestFrom (t .stretches);
+      highest = highestOfStretches (t .stretches);
     }
 
 -- the bounds of a tally: 1 to 16 classes, no count passes the book, the stretches lie apart and within the day, and their energy is at most
@@ -63,12 +64,12 @@ pub record Bounded (t : Tally) : Type 0 where
   pub energy : heldEnergy (t .stretches) ≤ e highestSample * t .end
 
 pub record Agrees (t : Tally) (day : Day) : Type 0 where
-  pub same : day ≡ dayFrom t
+  pub same : day ≡ dayOfTally t
   pub bounded : Bounded t
 
-pub period-from : (t : Tally) (p : Bool) → periodOf (dayFrom t) p ≡ periodFrom t p
-period-from t true = refl
-period-from t false = refl
+pub period-of-tally : (t : Tally) (p : Bool) → periodOf (dayOfTally t) p ≡ periodOfTally t p
+period-of-tally t true = refl
+period-of-tally t false = refl
 
 -- the day's sixteen places hold the tally's numbers, and its limbs the tally's energy
 module _ {t : Tally} (b : Bounded t) (p : Bool) where
@@ -105,8 +106,9 @@ unfolding limbsOf periodEnergy
 fresh daytime night h =
     let n = length daytime in
     let rules = pass (bookRules daytime night) (search needs) h in
-    let classes = neither (eqb n 0) (ltb mostClasses n) (rules .0) in
-    let even = eqb-true n (length night) (not-false (eqb n (length night)) (rules .1 .0)) in
+    let valid = neither (eqb n 0 || ltb mostClasses n) (_) (rules .0) in
+    let classes = neither (eqb n 0) (ltb mostClasses n) (valid .0) in
+    let even = eqb-true n (length night) (not-false (eqb n (length night)) (neither (not (eqb n (length night))) (_) (valid .1) .0)) in
     record {
       same = rw (padded-zeros mostClasses n);
       bounded =

@@ -5,23 +5,23 @@ use Prim.Native.Nat.{ℕ, _≤_}
 use Rattle.quantity.specs.Answers.{highestReading}
 use Rattle.ledger.specs.declared.Day.{Day}
 use Rattle.accuracy.specs.Tally.{Call, offering, closing, Tally, started, tallyOf, tallied}
-use Rattle.accuracy.specs.Terminal.{dayOf, dayAfter}
+use Rattle.accuracy.specs.Terminal.{dayAfterCalls, dayAfter}
 use Rattle.accuracy.specs.Demand.{Demanded, Claim}
 use Rattle.accuracy.specs.Laws.{Always, Apart, holders, WithinBook, highestHeld}
-use Rattle.accuracy.proofs.Held.{at-most-one, highest-from}
-use Rattle.accuracy.proofs.Agreement.{dayFrom, Bounded, Agrees, fresh, period-from, book-at, count-at, sum-whole}
+use Rattle.accuracy.proofs.Held.{at-most-one, highest-of-stretches}
+use Rattle.accuracy.proofs.Agreement.{dayOfTally, Bounded, Agrees, fresh, period-of-tally, book-at, count-at, sum-whole}
 use Rattle.accuracy.proofs.Offers.{offer-keeps, offer-demanded}
 use Rattle.accuracy.proofs.Closings.{close-demanded}
 
 -- each call keeps the agreement
-call-keeps : {t : Tally} → Bounded t → (call : Call) → Agrees (tallied t call) (dayAfter (dayFrom t) call)
+call-keeps : {t : Tally} → Bounded t → (call : Call) → Agrees (tallied t call) (dayAfter (dayOfTally t) call)
 call-keeps b (offering o) = offer-keeps b o
 call-keeps b (closing before after) = record { same = refl; bounded = b }
 
 pub keeps : {t : Tally} {day : Day} → Agrees t day → (call : Call) → Agrees (tallied t call) (dayAfter day call)
 keeps {t} a call = subst (λ (day : Day). Agrees (tallied t call) (dayAfter day call)) (sym (a .same)) (call-keeps (a .bounded) call)
 
-keep : {t : Tally} {day : Day} → Agrees t day → (calls : List Call) → Agrees (tallyOf t calls) (dayOf day calls)
+keep : {t : Tally} {day : Day} → Agrees t day → (calls : List Call) → Agrees (tallyOf t calls) (dayAfterCalls day calls)
 keep a [] = a
 keep a (c ∷ cs) = keep (keeps a c) cs
 
@@ -29,12 +29,12 @@ pub agree : Always Agrees
 agree daytime night h calls = keep (fresh daytime night h) calls
 
 -- so what holds of a bounded tally and the day that it gives holds always
-always : (P : Tally → Day → Type 0) → ((t : Tally) → Bounded t → P t (dayFrom t)) → Always P
+always : (P : Tally → Day → Type 0) → ((t : Tally) → Bounded t → P t (dayOfTally t)) → Always P
 always P holds daytime night h calls =
     let a = agree daytime night h calls in
     subst (P (tallyOf (started daytime night) calls)) (sym (a .same)) (holds _ (a .bounded))
 
-call-demanded : (K : ℕ) (t : Tally) → Bounded t → (call : Call) → Demanded K t (dayFrom t) call
+call-demanded : (K : ℕ) (t : Tally) → Bounded t → (call : Call) → Demanded K t (dayOfTally t) call
 call-demanded K t b (offering o) = offer-demanded b o K
 call-demanded K t b (closing before after) = close-demanded b before after K
 
@@ -43,9 +43,9 @@ pub within-book : Always WithinBook
 within-book =
     always WithinBook (λ t b.
     record {
-      counts = λ p class. rw (period-from t p) (count-at b p class);
-      booked = λ p class. rw (period-from t p, book-at b p class, count-at b p class) (b .counts p class);
-      sums = λ p. rw (period-from t p) (sum-whole b p);
+      counts = λ p class. rw (period-of-tally t p) (count-at b p class);
+      booked = λ p class. rw (period-of-tally t p, book-at b p class, count-at b p class) (b .counts p class);
+      sums = λ p. rw (period-of-tally t p) (sum-whole b p);
     })
 
 -- the stretches lie apart, and no instant is counted twice
@@ -61,7 +61,7 @@ counted-once instant daytime night h calls =
 pub highest-held : Always (λ t day. highestReading (day .highest) ≡ highestHeld (t .stretches))
 highest-held daytime night h calls =
     ap (λ (day : Day). highestReading (day .highest)) (agree daytime night h calls .same)
-    ∙ highest-from (tallyOf (started daytime night) calls .stretches)
+    ∙ highest-of-stretches (tallyOf (started daytime night) calls .stretches)
 
 -- demand 3 for offers and closings
 pub claim : Claim

@@ -15,7 +15,7 @@ use Rattle.ledger.specs.Offer.{raised}
 use Rattle.accuracy.specs.Tally.{Held}
 use Rattle.accuracy.specs.Laws.{Apart, holders, higher, highestHeld}
 use Rattle.quantity.proofs.Tests.{test, both}
-use Rattle.accuracy.proofs.Agreement.{highestFrom}
+use Rattle.accuracy.proofs.Agreement.{highestOfStretches}
 
 -- a later instant lies in none
 none-later : (instant : ℕ) {end : ℕ} (hs : List Held) → end ≤ instant → Apart end hs → holders instant hs ≡ 0
@@ -41,6 +41,6 @@ raised-reading (highests.At l) c =
     (λ t. rw t (ap some (omega (arith, ltb-true (l .0) c t))))
     (λ f. rw f (ap some (omega (arith, ltb-false (l .0) c f))))
 
-pub highest-from : (hs : List Held) → highestReading (highestFrom hs) ≡ highestHeld hs
-highest-from [] = refl
-highest-from (h ∷ hs) = raised-reading (highestFrom hs) (highest (h .levels)) ∙ ap (λ (top : Option ℕ). some (higher top (highest (h .levels)))) (highest-from hs)
+pub highest-of-stretches : (hs : List Held) → highestReading (highestOfStretches hs) ≡ highestHeld hs
+highest-of-stretches [] = refl
+highest-of-stretches (h ∷ hs) = raised-reading (highestOfStretches hs) (highest (h .levels)) ∙ ap (λ (top : Option ℕ). some (higher top (highest (h .levels)))) (highest-of-stretches hs)

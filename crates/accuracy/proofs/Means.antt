@@ -1,6 +1,7 @@
 -- Demand 3 for means: what the level of the days' levels says of the exact sum of all their samples.
 use mathlib.Core.Path.{_≡_, refl, sym, ap, _∙_}
 use mathlib.Core.Bool.{Bool, true, false, cond}
+use mathlib.Core.Logic.{_⊎_, inl, ⊎-elim}
 use mathlib.Core.List.{List, [], _∷_}
 use Prim.Native.Nat.{ℕ, zero, suc, _+_, _*_, _^_, _≤_, _<_, zero-le}
 use native.Mathlib.Nat.{add-zero, add-assoc, mul-le-mul-right, mul-lt-mul-of-pos-left, lt-of-not-le, not-le-of-lt}
@@ -9,7 +10,9 @@ use borrow.Author.Tests.{le-ltb, ltb-false}
 use lib.Dec.{ltb, lit<}
 use lib.ListN.{length}
 use Rattle.quantity.specs.Answers.{Reading, level, below-scale}
-use Rattle.quantity.specs.Rules.{firstOf}
+use Rattle.quantity.specs.Limits.{highestSample, highestDayLevel}
+use Rattle.quantity.specs.Rules.{firstOf, Outcome, refused, given, outcome}
+use Rattle.quantity.proofs.Outcomes.{given-value}
 use Rattle.quantity.proofs.Refusing.{skip, stop, end}
 use Rattle.quantity.proofs.Tests.{neither}
 use Rattle.power.specs.Power.{X, e, G}
@@ -20,16 +23,16 @@ use Rattle.level.proofs.Answer.{Answers, answers, said}
 use Rattle.level.proofs.Bounds.{exact-low, reaches}
 use Rattle.event.specs.Clock.{dayTicks}
 use Rattle.ledger.specs.Day.{freshDay}
-use Rattle.ledger.specs.Offer.{highestSample}
 use Rattle.ledger.specs.declared.Day.{Day}
-use Rattle.closing.specs.Close.{closeRules, nightWeight, methodTwoOffset, methodOneHolds, closed, closedOf, ldnOf, methodOf}
-use Rattle.mean.specs.Mean.{highestDay, isCountWrong, anyTooHigh, meanOf, meanRules, ifAllowed}
-use Rattle.mean.specs.Mean as means
+use Rattle.method.specs.Method.{methodOneHolds, methodBy}
+use Rattle.closing.specs.Formula.{formulaOne, formulaBy, levelBy}
+use Rattle.closing.specs.Close.{Closing, closeRules, closed}
+use Rattle.mean.specs.Mean.{isTooHigh, isCountWrong, anyTooHigh, powerOf, sumOfPowers, meanOf, meanRules}
 use Rattle.mean.specs.Records.{readings, DayReading}
-use Rattle.accuracy.specs.Tally.{Tally, started, tallyOf, tallyCounts}
-use Rattle.accuracy.specs.Terminal.{dayOf}
+use Rattle.accuracy.specs.Tally.{Tally, Held, started, tallyOf, tallyCounts, heldSamples}
+use Rattle.accuracy.specs.Terminal.{dayAfterCalls}
 use Rattle.accuracy.specs.Laws.{periodEnergy}
-use Rattle.accuracy.specs.Means.{MeasuredDay, recordsOf, daySamples, samplesOf, MeanDemanded, MeanClaim, Demand3}
+use Rattle.accuracy.specs.Means.{ClosedDay, Measured, Quiet, Each, heldIn, recordsOf, daySamples, samplesOf, MeanAccurate, MeanDemanded, MeanClaim, QuietLaw, Demand3}
 use Rattle.accuracy.proofs.Sums.{weighted-held, weighted-append, heldEnergy}
 use Rattle.accuracy.proofs.Agreement.{Agrees}
 use Rattle.accuracy.proofs.Closings.{tallyAnswer, closed-same}
@@ -37,82 +40,90 @@ use Rattle.accuracy.proofs.Claim.{agree, claim}
 
 -- one day
 
-abbrev tallyIn : MeasuredDay → Tally
+abbrev tallyIn : ClosedDay → Tally
 tallyIn d = tallyOf (started (d .daytime) (d .night)) (d .calls)
 
-abbrev energyIn : MeasuredDay → Bool → ℕ
-energyIn d p = periodEnergy p (tallyIn d .stretches)
-
-agrees : (d : MeasuredDay) → Agrees (tallyIn d) (dayOf (freshDay (d .daytime) (d .night)) (d .calls))
+agrees : (d : ClosedDay) → Agrees (tallyIn d) (dayAfterCalls (freshDay (d .daytime) (d .night)) (d .calls))
 agrees d = agree (d .daytime) (d .night) (d .opens) (d .calls)
 
--- an answer by method one is the level over the day of the two energies
-by-method : (v : Bool) (w M Sd Sn r : ℕ)
-    → levelOf (cond v 0 methodTwoOffset) (cond v dayTicks M) (cond v 1 w * Sd + cond v nightWeight w * Sn) ≡ level r
-    → cond {A = ℕ} v 1 2 ≡ 1
-    → levelOf 0 dayTicks (1 * Sd + nightWeight * Sn) ≡ level r
-by-method true w M Sd Sn r h m = h
-by-method false w M Sd Sn r h m = absurd (omega arith)
-
--- the record's level is that of the samples
-day-level : (d : MeasuredDay) → levelOf 0 dayTicks (weighted e (daySamples d)) ≡ level (d .ldn)
-day-level d =
+-- the level of a measured day is that of its samples
+day-level : (d : ClosedDay) (m : Measured d) → levelOf 0 dayTicks (weighted e (daySamples d)) ≡ level (m .ldn)
+day-level d m =
     let a = agrees d in
     let t = tallyIn d in
-    let same : tallyAnswer t (firstOf (closeRules (d .before) (d .after) (tallyCounts t))) ≡ closed (level (d .ldn)) 1 (d .dayEvents) (d .nightEvents) (d .highest) =
-    sym (closed-same (a .bounded) (d .before) (d .after)) ∙ ap (λ (day : Day). closedOf day (d .before) (d .after)) (sym (a .same)) ∙ d .closes in
-    rw (weighted-held (λ p. cond p 1 nightWeight) (t .stretches)) (by-number (firstOf (closeRules (d .before) (d .after) (tallyCounts t))) same)
-  where
-    by-number : (n : ℕ)
-        → tallyAnswer (tallyIn d) n ≡ closed (level (d .ldn)) 1 (d .dayEvents) (d .nightEvents) (d .highest)
-        → levelOf 0 dayTicks (1 * energyIn d true + nightWeight * energyIn d false) ≡ level (d .ldn)
-    by-number zero h =
-        let c = tallyCounts (tallyIn d) in
-        let l : ldnOf c (energyIn d true) (energyIn d false) ≡ level (d .ldn) = cc in
-        let m : methodOf c ≡ 1 = cc in
-        by-method (methodOneHolds c) _ _ (energyIn d true) (energyIn d false) (d .ldn) l m
-    by-number (suc n) h = absurd (let z : _≡_ {A = ℕ} 0 1 = cc in omega arith)
+    let n = firstOf (closeRules (d .before) (d .after) (tallyCounts t)) in
+    let same : tallyAnswer t n ≡ given (d .closing) =
+    sym (closed-same (a .bounded) (d .before) (d .after)) ∙ ap (λ (day : Day). closed day (d .before) (d .after)) (sym (a .same)) ∙ d .closes in
+    let c = given-value n same .1 in
+    rw (weighted-held (λ p. cond p (formulaOne .daytime) (formulaOne .night)) (heldIn d))
+    (rw (ap (λ (x : Closing). x .method) c ∙ m .byMethodOne) at (ap (λ (x : Closing). x .ldn) c ∙ m .onScale))
+
+day-bounds : (d : ClosedDay) (m : Measured d) → Answers 0 dayTicks (weighted e (daySamples d)) (level (m .ldn))
+day-bounds d m = said 0 dayTicks (weighted e (daySamples d)) (lit< tt) (day-level d m)
+
+-- what a reading adds to a sum of g over levels
+abbrev at : (ℕ → ℕ) → Reading → ℕ
+at g (level r) = g r
+at g below-scale = 0
+
+abbrev Stands : ClosedDay → Type 0
+Stands d = Measured d ⊎ Quiet d
+
+-- the samples of a day reach its level, and stay below the next
+reached-day : (d : ClosedDay) → Stands d → dayTicks * at e (d .closing .ldn) ≤ weighted e (daySamples d)
+reached-day d =
+    ⊎-elim (λ m. omega (arith, ap (at e) (m .onScale), simp add-zero at (day-bounds d m))) (λ q. omega (arith, ap (at e) (q .belowScale)))
+
+no-samples : (d : ClosedDay) → Quiet d → weighted e (daySamples d) ≡ 0
+unfolding weighted
+no-samples d q = ap (λ (hs : List Held). weighted e (heldSamples (λ p. cond p (formulaOne .daytime) (formulaOne .night)) hs)) (q .none)
+
+held-day : (d : ClosedDay) → Stands d → weighted e (daySamples d) ≤ dayTicks * at (λ c. e (c + 1)) (d .closing .ldn)
+held-day d =
+    ⊎-elim
+    (λ m. omega (arith, ap (at (λ c. e (c + 1))) (m .onScale), simp add-zero at (day-bounds d m)))
+    (λ q. omega (arith, no-samples d q))
+
+step-day : (r : Reading) → at (λ c. e (c + 1)) r * (G * G) ≤ at e r * ((G + 1) * 1002305239)
+step-day (level c) = omega (arith, e-step c)
+step-day below-scale = omega arith
 
 -- sums over the days
 
 -- the sum of g over the days' levels
-levels : (ℕ → ℕ) → List MeasuredDay → ℕ
+levels : (ℕ → ℕ) → List ClosedDay → ℕ
 levels g [] = 0
-levels g (d ∷ ds) = g (d .ldn) + levels g ds
+levels g (d ∷ ds) = at g (d .closing .ldn) + levels g ds
 
 -- the sum of e over the days is that of their records
-records-sum : (days : List MeasuredDay) → means.sumOf (readings (recordsOf days)) ≡ levels e days
-unfolding levels means.sumOf readings
-records-sum [] = refl
-records-sum (d ∷ ds) = rw (ap (λ (r : DayReading). r .level) (d .holds), records-sum ds)
+power-at : (r : Reading) → powerOf r ≡ at e r
+power-at (level c) = refl
+power-at below-scale = refl
 
-records-count : (days : List MeasuredDay) → length (readings (recordsOf days)) ≡ length days
+records-sum : (days : List ClosedDay) → sumOfPowers (readings (recordsOf days)) ≡ levels e days
+unfolding levels sumOfPowers readings
+records-sum [] = refl
+records-sum (d ∷ ds) = rw (ap (λ (r : DayReading). r .level) (d .holds), records-sum ds, power-at (d .closing .ldn))
+
+records-count : (days : List ClosedDay) → length (readings (recordsOf days)) ≡ length days
 unfolding readings
 records-count [] = refl
 records-count (d ∷ ds) = ap suc (records-count ds)
 
-day-bounds : (d : MeasuredDay) → Answers 0 dayTicks (weighted e (daySamples d)) (level (d .ldn))
-day-bounds d = said 0 dayTicks (weighted e (daySamples d)) (lit< tt) (day-level d)
-
--- the samples reach the days' levels, and stay below the next ones; the next are not far
-reached : (days : List MeasuredDay) → dayTicks * levels e days ≤ weighted e (samplesOf days)
+reached : (days : List ClosedDay) → Each Stands days → dayTicks * levels e days ≤ weighted e (samplesOf days)
 unfolding levels weighted
-reached [] = omega arith
-reached (d ∷ ds) =
-    rw (weighted-append e (daySamples d) (samplesOf ds))
-    (omega (arith, reached ds, simp add-zero at (day-bounds d)))
+reached [] all = omega arith
+reached (d ∷ ds) all = rw (weighted-append e (daySamples d) (samplesOf ds)) (omega (arith, reached ds (all .1), reached-day d (all .0)))
 
-held : (days : List MeasuredDay) → weighted e (samplesOf days) ≤ dayTicks * levels (λ c. e (c + 1)) days
+held : (days : List ClosedDay) → Each Stands days → weighted e (samplesOf days) ≤ dayTicks * levels (λ c. e (c + 1)) days
 unfolding levels weighted
-held [] = omega arith
-held (d ∷ ds) =
-    rw (weighted-append e (daySamples d) (samplesOf ds))
-    (omega (arith, held ds, simp add-zero at (day-bounds d)))
+held [] all = omega arith
+held (d ∷ ds) all = rw (weighted-append e (daySamples d) (samplesOf ds)) (omega (arith, held ds (all .1), held-day d (all .0)))
 
-steps : (days : List MeasuredDay) → levels (λ c. e (c + 1)) days * (G * G) ≤ levels e days * ((G + 1) * 1002305239)
+steps : (days : List ClosedDay) → levels (λ c. e (c + 1)) days * (G * G) ≤ levels e days * ((G + 1) * 1002305239)
 unfolding levels
 steps [] = omega arith
-steps (d ∷ ds) = omega (arith, steps ds, e-step (d .ldn))
+steps (d ∷ ds) = omega (arith, steps ds, step-day (d .closing .ldn))
 
 -- the mean
 
@@ -120,11 +131,11 @@ steps (d ∷ ds) = omega (arith, steps ds, e-step (d .ldn))
 three : (y z : ℕ) → 1002305238 * y < (G + 1) * 1002305239 * z → (G + 1) * y < G * (G + 3) * z
 three y z h = omega arith
 
-module _ (K r : ℕ) (days : List MeasuredDay) (some : 0 < length days) (all : Answers 0 (length days) (levels e days) (level r)) where
+module _ (K r : ℕ) (days : List ClosedDay) (stand : Each Stands days) (some : 0 < length days) (all : Answers 0 (length days) (levels e days) (level r)) where
   mean-reaches : Reaches 3 K (dayTicks * length days) (samplesOf days) r
   mean-reaches =
       let low : length days * e r ≤ levels e days = (simp add-zero at all) .0 in
-      omega (arith, reaches K (samplesOf days) (dayTicks * length days) r (omega (arith, reached days)))
+      omega (arith, reaches K (samplesOf days) (dayTicks * length days) r (omega (arith, reached days stand)))
 
   top : 1002305238 * (levels e days * 10 ^ K) < length days * (X K (r + 2) + 1) * (G * G)
   top =
@@ -137,7 +148,7 @@ module _ (K r : ℕ) (days : List MeasuredDay) (some : 0 < length days) (all : A
 
   exact : G * G * weighted (X K) (samplesOf days) ≤ dayTicks * (G + 1) * (next * 10 ^ K)
   unfolding next
-  exact = omega (arith, exact-low K (samplesOf days), mul-le-mul-right (10 ^ K) (held days))
+  exact = omega (arith, exact-low K (samplesOf days), mul-le-mul-right (10 ^ K) (held days stand))
 
   mean-below : IsBelow 3 K (dayTicks * length days) (samplesOf days) (r + 2)
   unfolding next
@@ -145,59 +156,96 @@ module _ (K r : ℕ) (days : List MeasuredDay) (some : 0 < length days) (all : A
       let z = length days * (X K (r + 2) + 1) in
       omega (arith, exact, three (next * 10 ^ K) z (omega (arith, mul-le-mul-right (10 ^ K) (steps days), top)))
 
--- days on the scale have a mean on the scale
-on-scale : (days : List MeasuredDay) → length days * e 0 ≤ levels e days
-unfolding levels
-on-scale [] = omega arith
-on-scale (d ∷ ds) = omega (arith, on-scale ds, e-mono {c = 0} {d = d .ldn} zero-le)
+  mean-on-scale : MeanAccurate K days (level r)
+  mean-on-scale = simp add-zero (mean-reaches, mean-below)
 
-mean-accurate : (K : ℕ) (days : List MeasuredDay) → 0 < length days
-    → Accurate 3 2 0 K (dayTicks * length days) (samplesOf days) (levelOf 0 (length days) (levels e days))
-mean-accurate K days some = go (levelOf 0 (length days) (levels e days)) (answers 0 (length days) (levels e days) some)
+-- measured days have a mean on the scale
+stands : (days : List ClosedDay) → Each Measured days → Each Stands days
+stands [] all = tt
+stands (d ∷ ds) all = (inl (all .0), stands ds (all .1))
+
+on-scale : (days : List ClosedDay) → Each Measured days → length days * e 0 ≤ levels e days
+unfolding levels
+on-scale [] all = omega arith
+on-scale (d ∷ ds) all = rw (all .0 .onScale) (omega (arith, on-scale ds (all .1), e-mono {c = 0} {d = all .0 .ldn} zero-le))
+
+mean-accurate : (K : ℕ) (days : List ClosedDay) → Each Measured days → 0 < length days → MeanAccurate K days (levelOf 0 (length days) (levels e days))
+mean-accurate K days all some = go (levelOf 0 (length days) (levels e days)) (answers 0 (length days) (levels e days) some)
   where
-    go : (a : Reading) → Answers 0 (length days) (levels e days) a → Accurate 3 2 0 K (dayTicks * length days) (samplesOf days) a
-    go (level r) h = simp add-zero (mean-reaches K r days some h, mean-below K r days some h)
-    go below-scale h = absurd (not-le-of-lt h (on-scale days))
+    go : (a : Reading) → Answers 0 (length days) (levels e days) a → MeanAccurate K days a
+    go (level r) h = mean-on-scale K r days (stands days all) some h
+    go below-scale h = absurd (not-le-of-lt h (on-scale days all))
 
 -- the claim
 
 -- no day's level is too high for a mean
-low-level : (d : MeasuredDay) → d .ldn ≤ highestDay
-low-level d =
+low-level : (d : ClosedDay) (m : Measured d) → m .ldn ≤ highestDayLevel
+low-level d m =
     let b = agrees d .bounded in
     let top : e highestSample ≡ G * 10 ^ 14 = rw m-zero at (e-at 14 0 zero-le) in
     let far : e 20000 ≡ G * 10 ^ 20 = rw m-zero at (e-at 20 0 zero-le) in
-    let sum = weighted-held (λ p. cond p 1 nightWeight) (tallyIn d .stretches) in
-    let reach : dayTicks * e (d .ldn) ≤ weighted e (daySamples d) = (simp add-zero at (day-bounds d)) .0 in
-    let energy : heldEnergy (tallyIn d .stretches) ≤ G * 10 ^ 14 * tallyIn d .end = rw top at (b .energy) in
+    let sum = weighted-held (λ p. cond p (formulaOne .daytime) (formulaOne .night)) (heldIn d) in
+    let reach : dayTicks * e (m .ldn) ≤ weighted e (daySamples d) = (simp add-zero at (day-bounds d m)) .0 in
+    let energy : heldEnergy (heldIn d) ≤ G * 10 ^ 14 * tallyIn d .end = rw top at (b .energy) in
     let room = b .day in
-    let below : d .ldn < highestDay + 1 = lt-of-not-le (λ l. omega (arith, e-mono {c = 20000} {d = d .ldn} (omega arith))) in
+    let below : m .ldn < highestDayLevel + 1 = lt-of-not-le (λ l. omega (arith, e-mono {c = 20000} {d = m .ldn} (omega arith))) in
     omega arith
 
-none-high : (days : List MeasuredDay) → anyTooHigh (readings (recordsOf days)) ≡ false
-unfolding anyTooHigh readings
-none-high [] = refl
-none-high (d ∷ ds) =
-    rw (ap (λ (r : DayReading). r .level) (d .holds), le-ltb highestDay (d .ldn) (low-level d)) (none-high ds)
+fits-record : (d : ClosedDay) → Stands d → isTooHigh (d .closing .ldn) ≡ false
+fits-record d = ⊎-elim (λ m. rw (m .onScale) (le-ltb highestDayLevel (m .ldn) (low-level d m))) (λ q. rw (q .belowScale))
 
-mean-demanded : (fewest most : ℕ) → 0 < fewest → (K : ℕ) (days : List MeasuredDay)
-    → MeanDemanded fewest most K days (meanOf fewest most (readings (recordsOf days)))
-unfolding meanOf
-mean-demanded fewest most positive K days =
-    rw (records-count days, none-high days, records-sum days) (go (isCountWrong fewest most (length days)) refl)
-  where
-    go : (v : Bool) → isCountWrong fewest most (length days) ≡ v
-        → MeanDemanded fewest most K days (ifAllowed (firstOf (meanRules v false)) (levelOf 0 (length days) (levels e days)))
-    go true h = rw (stop (record { number = 13; refuses = true }) _ refl) (refl, h)
-    go false h =
-        let few = ltb-false (length days) fewest (neither (ltb (length days) fewest) (ltb most (length days)) h .0) in
-        rw (skip (record { number = 13; refuses = false }) _ refl, skip (record { number = 14; refuses = false }) _ refl, end)
-        (mean-accurate K days (omega arith))
+none-high : (days : List ClosedDay) → Each Stands days → anyTooHigh (readings (recordsOf days)) ≡ false
+unfolding anyTooHigh readings
+none-high [] all = refl
+none-high (d ∷ ds) all = rw (ap (λ (r : DayReading). r .level) (d .holds), fits-record d (all .0)) (none-high ds (all .1))
+
+module _ (fewest most : ℕ) (positive : 0 < fewest) (days : List ClosedDay) where
+  -- a right number of days is above 0
+  some-days : isCountWrong fewest most (length days) ≡ false → 0 < length days
+  some-days h =
+      let few = ltb-false (length days) fewest (neither (ltb (length days) fewest) (ltb most (length days)) h .0) in
+      omega arith
+
+  -- what a mean of such days answers
+  abbrev answerBy : Bool → Outcome Reading
+  answerBy v = outcome (firstOf (meanRules v false)) (levelOf 0 (length days) (levels e days))
+
+  mean-same : Each Stands days → meanOf fewest most (readings (recordsOf days)) ≡ answerBy (isCountWrong fewest most (length days))
+  unfolding meanOf
+  mean-same all = rw (records-count days, none-high days all, records-sum days)
+
+  refused-by : answerBy true ≡ refused 13
+  refused-by = rw (stop (record { number = 13; refuses = true }) (record { number = 14; refuses = false } ∷ []) refl)
+
+  given-by : answerBy false ≡ given (levelOf 0 (length days) (levels e days))
+  given-by = rw (skip (record { number = 13; refuses = false }) (record { number = 14; refuses = false } ∷ []) refl, skip (record { number = 14; refuses = false }) [] refl, end)
+
+  mean-demanded : Each Measured days → (K : ℕ) → MeanDemanded fewest most K days (meanOf fewest most (readings (recordsOf days)))
+  mean-demanded all K = rw (mean-same (stands days all)) (go (isCountWrong fewest most (length days)) refl)
+    where
+      go : (v : Bool) → isCountWrong fewest most (length days) ≡ v → MeanDemanded fewest most K days (answerBy v)
+      go true h = rw refused-by (refl, h)
+      go false h = rw given-by (h, mean-accurate K days all (some-days h))
+
+  mean-quiet : Each Stands days → (K r : ℕ) → meanOf fewest most (readings (recordsOf days)) ≡ given (level r) → MeanAccurate K days (level r)
+  mean-quiet all K r h = go (isCountWrong fewest most (length days)) refl (sym (mean-same all) ∙ h)
+    where
+      go : (v : Bool) → isCountWrong fewest most (length days) ≡ v → answerBy v ≡ given (level r) → MeanAccurate K days (level r)
+      go true w g = absurd (let f = sym refused-by ∙ g in let z : _≡_ {A = ℕ} 0 1 = cc in omega arith)
+      go false w g =
+          let f = sym given-by ∙ g in
+          let l : levelOf 0 (length days) (levels e days) ≡ level r = cc in
+          mean-on-scale K r days all (some-days w) (said 0 (length days) (levels e days) (some-days w) l)
 
 -- demand 3 for means
 pub mean-claim : MeanClaim
 unfolding MeanClaim
-mean-claim K days = (mean-demanded 7 7 (lit< tt) K days, mean-demanded 1 366 (lit< tt) K days)
+mean-claim K days all = (mean-demanded 7 7 (lit< tt) days all K, mean-demanded 1 366 (lit< tt) days all K)
+
+-- and quiet days among the others
+pub quiet-law : QuietLaw
+unfolding QuietLaw
+quiet-law K days all r = (mean-quiet 7 7 (lit< tt) days all K r, mean-quiet 1 366 (lit< tt) days all K r)
 
 -- demand 3, whole
 pub demand3 : Demand3

@@ -8,38 +8,39 @@ use native.Mathlib.Omega.{arith}
 use borrow.Author.Tests.{leb-false, eqb-false}
 use lib.Dec.{leb, eqb}
 use lib.ListN.{length, getD, set, length-set}
-use Rattle.quantity.specs.Rules.{Rule, firstOf}
+use Rattle.quantity.specs.Limits.{highestSample}
+use Rattle.quantity.specs.Rules.{Rule, firstOf, refused, outcome, follow}
 use Rattle.quantity.specs.declared.HighestLevel.{HighestLevel}
 use Rattle.power.specs.Power.{e}
 use Rattle.limbs.proofs.Digits.{limbsOf-add}
 use Rattle.event.specs.Window.{highest}
 use Rattle.event.specs.Stretch.{stretchFirst, stretchEnd, stretchOf}
 use Rattle.decades.specs.Decades.{energies}
-use Rattle.event.specs.Event.{locatedOf, energyOf}
-use Rattle.event.proofs.Exposure.{exposure-accurate}
-use Rattle.event.proofs.Whole.{within, peak-inside}
+use Rattle.event.specs.Event.{eventOf, energyOf}
+use Rattle.event.proofs.Accuracy.{exposure-accurate}
+use Rattle.event.proofs.Whole.{in-window, peak-inside}
 use Rattle.ledger.specs.Book.{mostClasses}
-use Rattle.ledger.specs.Day.{periodOf, withPeriod}
-use Rattle.ledger.specs.Offer.{Offering, OfferReading, offered, ifAdmitted, admitted, dayChecks, usedUp, withEvent, entered, raised, highestSample}
+use Rattle.ledger.specs.Day.{periodOf, withPeriod, Answered}
+use Rattle.ledger.specs.Offer.{Offering, Accepted, offered, admitted, dayChecks, usedUp, withEvent, entered, raised}
 use Rattle.ledger.specs.declared.Period.{Period}
 use Rattle.ledger.specs.declared.Day.{Day}
-use Rattle.accuracy.specs.Tally.{offering, Held, Tally, tallied, joined, ifNone, periodIn, counted, sameAs, tallyChecks}
+use Rattle.accuracy.specs.Tally.{offering, Held, Tally, tallied, joined, periodIn, counted, sameAs, tallyChecks}
 use Rattle.accuracy.specs.Demand.{OfferDemanded}
 use Rattle.accuracy.specs.Laws.{Apart, periodEnergy}
 use Rattle.accuracy.proofs.Tests.{cond-both, first-limit, reached-equal}
 use Rattle.accuracy.proofs.Lists.{padded-set, raised-within}
 use Rattle.accuracy.proofs.Sums.{held-more}
 use Rattle.accuracy.proofs.Windows.{highest-stretch, stretch-energy, Admitted, admits}
-use Rattle.accuracy.proofs.Agreement.{periodOfParts, periodFrom, highestFrom, dayFrom, Bounded, Agrees, period-from, book-at, count-at}
+use Rattle.accuracy.proofs.Agreement.{periodOfParts, periodOfTally, highestOfStretches, dayOfTally, Bounded, Agrees, period-of-tally, book-at, count-at}
 
 -- the rules against a day that a tally gives are the tally's own
 module _ {t : Tally} (b : Bounded t) where
-  used-same : (p : Bool) (class : ℕ) → usedUp (periodOf (dayFrom t) p) class ≡ eqb (getD (t .count p) class 0) (getD (t .book p) class 0)
-  used-same p class = rw (period-from t p, book-at b p class, count-at b p class) (reached-equal _ _ (b .counts p class))
+  used-same : (p : Bool) (class : ℕ) → usedUp (periodOf (dayOfTally t) p) class ≡ eqb (getD (t .count p) class 0) (getD (t .book p) class 0)
+  used-same p class = rw (period-of-tally t p, book-at b p class, count-at b p class) (reached-equal _ _ (b .counts p class))
 
-  pub checks-same : (o : Offering) → dayChecks (dayFrom t) o ≡ tallyChecks t o
+  pub checks-same : (o : Offering) → dayChecks (dayOfTally t) o ≡ tallyChecks t o
   checks-same o =
-      let class = o .conditions .class in
+      let class = o .recording .class in
       rw (first-limit (length (t .book true)) mostClasses class (b .most), used-same (periodIn o) class)
 
 -- days that differ in their periods and their highest level
@@ -65,7 +66,7 @@ module _ {t : Tally} (b : Bounded t) (class : ℕ) (booked : class < length (t .
 
   -- the day with the event is the day of the tally with the stretch
   with-event : (p : Bool) (S : ℕ)
-      → withEvent (periodFrom t p) class S
+      → withEvent (periodOfTally t p) class S
       ≡ periodOfParts (t .book p) (set (t .count p) class (getD (t .count p) class 0 + 1)) (S + periodEnergy p (t .stretches))
   with-event p S =
       rw (
@@ -75,15 +76,20 @@ module _ {t : Tally} (b : Bounded t) (class : ℕ) (booked : class < length (t .
         add-comm (periodEnergy p (t .stretches)) S,
       )
 
-  without-event : (p : Bool) → periodFrom t p ≡ periodOfParts (t .book p) (t .count p) (0 + periodEnergy p (t .stretches))
+  without-event : (p : Bool) → periodOfTally t p ≡ periodOfParts (t .book p) (t .count p) (0 + periodEnergy p (t .stretches))
   without-event p = rw (zero-add (periodEnergy p (t .stretches)))
 
   event-same : (p : Bool) (from to : ℕ) (levels : List ℕ) {top : ℕ} → top ≡ highest levels
-      → withPeriod (dayFrom t) p
-      (withEvent (periodOf (dayFrom t) p) class (energies levels))
-      (record { 0 = to })
-      (raised (highestFrom (t .stretches)) (record { 0 = top }))
-      ≡ dayFrom (withStretch t class (record { daytime = p; from = from; to = to; levels = levels }))
+      → let next = withPeriod (dayOfTally t) p (withEvent (periodOf (dayOfTally t) p) class (energies levels)) in
+      _≡_ {A = Day}
+      (record {
+        classes = next .classes;
+        daytime = next .daytime;
+        night = next .night;
+        end = record { 0 = to };
+        highest = raised (next .highest) (record { 0 = top });
+      })
+      (dayOfTally (withStretch t class (record { daytime = p; from = from; to = to; levels = levels })))
   unfolding periodEnergy
   event-same true from to levels e = day-same (with-event true (energies levels)) (without-event false) (rw e)
   event-same false from to levels e = day-same (without-event true) (with-event false (energies levels)) (rw e)
@@ -108,24 +114,24 @@ apart-later (h ∷ hs) l p = (le-trans (p .0) l, p .1, p .2)
 -- an offer that no rule of the tally refuses
 module _ {t : Tally} (b : Bounded t) (o : Offering) (free : firstOf (tallyChecks t o) ≡ 0) where
   admission : Admitted o
-      (leb (length (t .book true)) (o .conditions .class))
+      (leb (length (t .book true)) (o .recording .class))
       (t .end)
-      (eqb (getD (t .count (periodIn o)) (o .conditions .class) 0) (getD (t .book (periodIn o)) (o .conditions .class) 0))
+      (eqb (getD (t .count (periodIn o)) (o .recording .class) 0) (getD (t .book (periodIn o)) (o .recording .class) 0))
   admission = admits o _ _ _ free
 
-  in-book : o .conditions .class < length (t .book true)
+  in-book : o .recording .class < length (t .book true)
   in-book = leb-false _ _ (admission .booked)
 
-  joined-same : entered (dayFrom t) (o .conditions) (locatedOf (o .samples)) (energyOf (o .samples)) ≡ dayFrom (joined t o)
+  joined-same : entered (dayOfTally t) (o .recording) (eventOf (o .samples)) (energyOf (o .samples)) ≡ dayOfTally (joined t o)
   joined-same =
-      let c = o .conditions in
+      let c = o .recording in
       let s = o .samples in
-      event-same b (c .class) in-book (periodIn o) (c .start + stretchFirst s) (c .start + stretchEnd s) (stretchOf s)
+      event-same b (c .class) in-book (periodIn o) (c .start .0 + stretchFirst s) (c .start .0 + stretchEnd s) (stretchOf s)
       (sym (highest-stretch s (admission .some)))
 
   joined-bounded : Bounded (joined t o)
   joined-bounded =
-      let class = o .conditions .class in
+      let class = o .recording .class in
       let s = o .samples in
       let p = periodIn o in
       let a = admission in
@@ -139,7 +145,7 @@ module _ {t : Tally} (b : Bounded t) (o : Offering) (free : firstOf (tallyChecks
         booked = b .booked;
         counted = counted-length b class in-book p;
         counts = counted-within b class in-book p room;
-        day = omega (arith, within s, a .past);
+        day = omega (arith, in-window s, a .past);
         apart = (le-refl _, omega arith, apart-later (t .stretches) (a .after) (b .apart));
         energy =
             rw held-more
@@ -147,23 +153,24 @@ module _ {t : Tally} (b : Bounded t) (o : Offering) (free : firstOf (tallyChecks
       }
 
 -- what comes of an offer, by the number that the tally's rules give
-abbrev outcome : Tally → Offering → ℕ → OfferReading
-outcome t o n = ifAdmitted n (dayFrom t) (admitted (dayFrom t) o)
+abbrev answerBy : Tally → Offering → ℕ → Answered Accepted
+answerBy t o n =
+    follow (outcome n (admitted (dayOfTally t) o)) (λ k. record { day = dayOfTally t; answer = refused k }) (λ next. next)
 
 module _ {t : Tally} (b : Bounded t) (o : Offering) where
-  offered-same : offered (dayFrom t) o ≡ outcome t o (firstOf (tallyChecks t o))
-  offered-same = ap (λ (rules : List Rule). outcome t o (firstOf rules)) (checks-same b o)
+  offered-same : offered (dayOfTally t) o ≡ answerBy t o (firstOf (tallyChecks t o))
+  offered-same = ap (λ (rules : List Rule). answerBy t o (firstOf rules)) (checks-same b o)
 
-  pub offer-keeps : Agrees (tallied t (offering o)) (offered (dayFrom t) o .day)
+  pub offer-keeps : Agrees (tallied t (offering o)) (offered (dayOfTally t) o .day)
   offer-keeps = rw offered-same (by-number (firstOf (tallyChecks t o)) refl)
     where
-      by-number : (n : ℕ) → firstOf (tallyChecks t o) ≡ n → Agrees (ifNone n t (joined t o)) (outcome t o n .day)
+      by-number : (n : ℕ) → firstOf (tallyChecks t o) ≡ n → Agrees (follow (outcome n (joined t o)) (λ k. t) (λ next. next)) (answerBy t o n .day)
       by-number zero h = record { same = joined-same b o h; bounded = joined-bounded b o h }
       by-number (suc n) h = record { same = refl; bounded = b }
 
-  pub offer-demanded : (K : ℕ) → OfferDemanded K t o (offered (dayFrom t) o .answer)
+  pub offer-demanded : (K : ℕ) → OfferDemanded K t o (offered (dayOfTally t) o .answer)
   offer-demanded K = rw offered-same (by-number (firstOf (tallyChecks t o)) refl)
     where
-      by-number : (n : ℕ) → firstOf (tallyChecks t o) ≡ n → OfferDemanded K t o (outcome t o n .answer)
+      by-number : (n : ℕ) → firstOf (tallyChecks t o) ≡ n → OfferDemanded K t o (answerBy t o n .answer)
       by-number zero h = (h, refl, exposure-accurate K (o .samples))
       by-number (suc n) h = (h, omega arith)

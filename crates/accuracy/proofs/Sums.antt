@@ -6,14 +6,14 @@ use Prim.Native.Nat.{ℕ, _+_, _*_, _^_, _≤_, _<_, zero-le}
 use native.Mathlib.Nat.{add-assoc, zero-add, lt-of-le-of-lt, le-trans, mul-le-mul-left}
 use native.Mathlib.Omega.{arith}
 use lib.Dec.{lit<}
+use Rattle.quantity.specs.Limits.{highestSample}
 use Rattle.power.specs.Power.{e, G}
 use Rattle.power.proofs.Scale.{e-at, m-zero}
 use Rattle.limbs.specs.Value.{base}
 use Rattle.level.specs.Accuracy.{Sample, weighted, weigh}
 use Rattle.event.specs.Clock.{dayTicks}
 use Rattle.decades.specs.Decades.{energies}
-use Rattle.event.proofs.Exposure.{weighted-energies}
-use Rattle.ledger.specs.Offer.{highestSample}
+use Rattle.event.proofs.Accuracy.{weighted-energies}
 use Rattle.accuracy.specs.Tally.{Held, sameAs, heldSamples}
 use Rattle.accuracy.specs.Laws.{periodEnergy}
 

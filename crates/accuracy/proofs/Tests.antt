@@ -13,7 +13,7 @@ pub cond-both : {A : Type 0} (P : A → Type 0) (v : Bool) {a b : A} → P a →
 cond-both P true p q = p
 cond-both P false p q = q
 
--- a second limit that is not below the first does not show
+-- a second limit that is not below the first is not observable
 pub first-limit : (n most k : ℕ) → n ≤ most → leb n k || leb most k ≡ leb n k
 first-limit n most k h = weaker (leb n k) (leb most k) (λ t. le-leb n k (le-trans h (leb-true most k t)))
   where

@@ -10,6 +10,7 @@ use borrow.Author.Needs.{needs}
 use lib.Dec.{ltb}
 use lib.ListN.{length, getD, take}
 use lib.Seq.{length-slice, getD-take, getD-drop}
+use Rattle.quantity.specs.Limits.{highestSample}
 use Rattle.quantity.specs.Rules.{firstOf}
 use Rattle.quantity.proofs.Refusing.{pass}
 use Rattle.power.specs.Power.{e}
@@ -18,8 +19,8 @@ use Rattle.event.specs.Window.{highest, peakOf, anyAbove}
 use Rattle.event.specs.Stretch.{stretchFirst, stretchEnd, stretchOf}
 use Rattle.decades.specs.Decades.{energies}
 use Rattle.event.proofs.Runs.{peaks, highest-above}
-use Rattle.event.proofs.Whole.{any-above, within, peak-inside}
-use Rattle.ledger.specs.Offer.{Offering, offerChecks, highestSample}
+use Rattle.event.proofs.Whole.{any-above, in-window, peak-inside}
+use Rattle.ledger.specs.Offer.{Offering, offerChecks}
 use Rattle.quantity.proofs.Tests.{neither}
 use Rattle.accuracy.proofs.Lists.{highest-slice, energies-most}
 
@@ -36,7 +37,7 @@ highest-stretch s h =
 -- its energy is at most that of as many samples at a level that none passes
 pub stretch-energy : (c : ℕ) (s : List ℕ) → highest s ≤ c → energies (stretchOf s) + e c * stretchFirst s ≤ e c * stretchEnd s
 stretch-energy c s h =
-    let w = within s in
+    let w = in-window s in
     let n : stretchFirst s + (stretchEnd s - stretchFirst s) ≡ stretchEnd s = omega arith in
     let all : e c * (stretchFirst s + (stretchEnd s - stretchFirst s)) ≡ e c * stretchEnd s = ap (λ (k : ℕ). e c * k) n in
     let most = rw (length-slice (stretchFirst s) (stretchEnd s) s (w .end)) at
@@ -46,24 +47,24 @@ stretch-energy c s h =
 -- what no refusal says of an offer: 1 and 2, 3, 4, 8 and 9
 pub record Admitted (o : Offering) (unbooked : Bool) (end : ℕ) (used : Bool) : Type 0 where
   pub some : 0 < length (o .samples)
-  pub past : o .conditions .start + length (o .samples) ≤ dayTicks
+  pub past : o .recording .start .0 + length (o .samples) ≤ dayTicks
   pub booked : unbooked ≡ false
   pub level : highest (o .samples) ≤ highestSample
-  pub after : end ≤ o .conditions .start + stretchFirst (o .samples)
+  pub after : end ≤ o .recording .start .0 + stretchFirst (o .samples)
   pub unused : used ≡ false
 
 pub admits : (o : Offering) (unbooked : Bool) (end : ℕ) (used : Bool) → firstOf (offerChecks o unbooked end used) ≡ 0 → Admitted o unbooked end used
 admits o unbooked end used h =
-    let c = o .conditions in
+    let c = o .recording in
     let n = length (o .samples) in
     let p = pass (offerChecks o unbooked end used) (search needs) h in
     let count = neither (ltb n shortestWindow) (ltb longestWindow n) (p .0) in
-    let high = neither (anyAbove highestSample (o .samples)) (ltb highestSample (c .background)) (p .1 .1 .1 .0) in
+    let high = neither (anyAbove highestSample (o .samples)) (ltb highestSample (c .background .0)) (p .1 .1 .1 .0) in
     record {
       some = omega (arith, ltb-false n shortestWindow (count .0));
-      past = ltb-false dayTicks (c .start + n) (p .1 .0);
+      past = ltb-false dayTicks (c .start .0 + n) (p .1 .0);
       booked = p .1 .1 .0;
       level = ltb-false highestSample (highest (o .samples)) (sym (any-above highestSample (o .samples)) ∙ high .0);
-      after = ltb-false (c .start + stretchFirst (o .samples)) end (p .1 .1 .1 .1 .1 .1 .1 .0);
+      after = ltb-false (c .start .0 + stretchFirst (o .samples)) end (p .1 .1 .1 .1 .1 .1 .1 .0);
       unused = p .1 .1 .1 .1 .1 .1 .1 .1 .0;
     }

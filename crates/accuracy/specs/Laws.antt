@@ -7,20 +7,19 @@ use Prim.Native.Nat.{ℕ, _+_, _≤_, _<_, max}
 use lib.Dec.{leb, ltb}
 use lib.ListN.{getD}
 use Rattle.quantity.specs.Rules.{firstOf}
-use Rattle.limbs.specs.Value.{value}
 use Rattle.event.specs.Window.{highest}
 use Rattle.decades.specs.Decades.{energies}
 use Rattle.ledger.specs.Book.{bookRules}
-use Rattle.ledger.specs.Day.{freshDay, periodOf}
+use Rattle.ledger.specs.Day.{freshDay, periodOf, energyIn}
 use Rattle.ledger.specs.declared.Day.{Day}
 use Rattle.accuracy.specs.Tally.{Call, Held, Tally, started, tallyOf, sameAs}
-use Rattle.accuracy.specs.Terminal.{dayOf}
+use Rattle.accuracy.specs.Terminal.{dayAfterCalls}
 
 -- for every book that opens and every list of calls, refused ones included
 abbrev pub Always : (Tally → Day → Type 0) → Type 0
 Always P =
     (daytime night : List ℕ) → firstOf (bookRules daytime night) ≡ 0 → (calls : List Call)
-    → P (tallyOf (started daytime night) calls) (dayOf (freshDay daytime night) calls)
+    → P (tallyOf (started daytime night) calls) (dayAfterCalls (freshDay daytime night) calls)
 
 -- the stretches, the latest first, end by a time, and each begins where the ones before it have ended: no instant is counted twice
 abbrev pub Apart : ℕ → List Held → Type 0
@@ -41,7 +40,7 @@ periodEnergy p (h ∷ hs) = cond (sameAs (h .daytime) p) (energies (h .levels)) 
 pub record WithinBook (t : Tally) (day : Day) : Type 0 where
   pub counts : (p : Bool) (class : ℕ) → getD (periodOf day p .accepted) class 0 ≡ getD (t .count p) class 0
   pub booked : (p : Bool) (class : ℕ) → getD (periodOf day p .accepted) class 0 ≤ getD (periodOf day p .booked) class 0
-  pub sums : (p : Bool) → value (periodOf day p .sum) ≡ periodEnergy p (t .stretches)
+  pub sums : (p : Bool) → energyIn (periodOf day p) ≡ periodEnergy p (t .stretches)
 
 -- the highest level of the stretches, or none without any
 abbrev pub higher : Option ℕ → ℕ → ℕ

@@ -1,6 +1,6 @@
--- Demand 3 as a reader finds it: the plain tally, the terminal over lists of calls, the claims, and the laws beside them.
+-- Demand 3 as a reader finds it: the plain tally, the terminal over lists of calls, the laws beside the claims, and the claims.
 pub mod Tally
 pub mod Terminal
-pub mod Demand
 pub mod Laws
+pub mod Demand
 pub mod Means

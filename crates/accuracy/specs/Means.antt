@@ -1,67 +1,93 @@
 -- Demand 3 for means (document 01, 'Powers', 'Means'): the sum runs, for each of the days, over the stretches held at the closing whose answer
 -- that day's record holds.
 use mathlib.Core.Path.{_≡_}
-use mathlib.Core.Bool.{true, cond}
+use mathlib.Core.Bool.{true, false, cond}
+use mathlib.Core.Logic.{_⊎_}
 use mathlib.Core.List.{List, [], _∷_, _++_}
-use mathlib.Core.Option.{Option}
 use Prim.Native.Nat.{ℕ, _*_}
 use lib.ListN.{length}
-use Rattle.quantity.specs.Answers.{level}
-use Rattle.quantity.specs.Rules.{firstOf}
+use Rattle.quantity.specs.Answers.{Reading, level, below-scale}
+use Rattle.quantity.specs.Rules.{firstOf, Outcome, refused, given}
 use Rattle.quantity.specs.declared.DayAnswer.{DayAnswer}
 use Rattle.level.specs.Accuracy.{Sample, Accurate}
 use Rattle.event.specs.Clock.{dayTicks}
 use Rattle.ledger.specs.Book.{bookRules}
 use Rattle.ledger.specs.Day.{freshDay}
-use Rattle.closing.specs.Close.{nightWeight, closed, closedOf}
-use Rattle.mean.specs.Mean.{MeanResult, isCountWrong, weekMeanOf, yearMeanOf}
-use Rattle.mean.specs.Mean as means
+use Rattle.closing.specs.Formula.{formulaOne}
+use Rattle.closing.specs.Close.{Closing, closed}
+use Rattle.mean.specs.Mean.{isCountWrong, weekMeanOf, yearMeanOf}
 use Rattle.mean.specs.Records.{readings, dayReading}
-use Rattle.accuracy.specs.Tally.{Call, started, tallyOf, heldSamples}
-use Rattle.accuracy.specs.Terminal.{dayOf}
+use Rattle.accuracy.specs.Tally.{Call, Held, started, tallyOf, heldSamples}
+use Rattle.accuracy.specs.Terminal.{dayAfterCalls}
 use Rattle.accuracy.specs.Demand.{Claim}
 
--- a day of a mean: a book that opens, a list of calls of its own and a closing after them that gives a level by method one; and the day's record,
--- which holds that answer
-pub record MeasuredDay : Type 0 where
+-- a day of a mean: a book that opens, a list of calls of its own and a closing after them; and the day's record, which holds that answer
+pub record ClosedDay : Type 0 where
   pub daytime : List ℕ
   pub night : List ℕ
   pub opens : firstOf (bookRules daytime night) ≡ 0
   pub calls : List Call
   pub before : ℕ
   pub after : ℕ
-  pub ldn : ℕ
-  pub dayEvents : ℕ
-  pub nightEvents : ℕ
-  pub highest : Option ℕ
-  pub closes : closedOf (dayOf (freshDay daytime night) calls) before after ≡ closed (level ldn) 1 dayEvents nightEvents highest
+  pub closing : Closing
+  pub closes : closed (dayAfterCalls (freshDay daytime night) calls) before after ≡ given closing
   pub kept : DayAnswer
-  pub holds : dayReading kept ≡ record { level = level ldn; method = 1 }
+  pub holds : dayReading kept ≡ record { level = closing .ldn; method = closing .method }
 
--- the records of the days
-abbrev pub recordsOf : List MeasuredDay → List DayAnswer
+-- the stretches held at its closing
+abbrev pub heldIn : ClosedDay → List Held
+heldIn d = tallyOf (started (d .daytime) (d .night)) (d .calls) .stretches
+
+-- its samples, with the weights of method one
+abbrev pub daySamples : ClosedDay → List Sample
+daySamples d = heldSamples (λ p. cond p (formulaOne .daytime) (formulaOne .night)) (heldIn d)
+
+-- the records and the samples of some days
+abbrev pub recordsOf : List ClosedDay → List DayAnswer
 recordsOf [] = []
 recordsOf (d ∷ ds) = d .kept ∷ recordsOf ds
 
--- the samples of the stretches held at each closing, with the weights of method one
-abbrev pub daySamples : MeasuredDay → List Sample
-daySamples d = heldSamples (λ p. cond p 1 nightWeight) (tallyOf (started (d .daytime) (d .night)) (d .calls) .stretches)
-
-abbrev pub samplesOf : List MeasuredDay → List Sample
+abbrev pub samplesOf : List ClosedDay → List Sample
 samplesOf [] = []
 samplesOf (d ∷ ds) = daySamples d ++ samplesOf ds
 
--- M is 864000 * D, G + 1 becomes G + 3 and r + 1 becomes r + 2; such days are refused for their number alone
-abbrev pub MeanDemanded : (fewest most K : ℕ) → List MeasuredDay → MeanResult → Type 0
-MeanDemanded fewest most K days (means.mean r) = Accurate 3 2 0 K (dayTicks * length days) (samplesOf days) r
-MeanDemanded fewest most K days (means.refused n) = (n ≡ 13) × (isCountWrong fewest most (length days) ≡ true)
+-- what the promise asks of each day: a level by method one
+pub record Measured (d : ClosedDay) : Type 0 where
+  pub ldn : ℕ
+  pub onScale : d .closing .ldn ≡ level ldn
+  pub byMethodOne : d .closing .method ≡ 1
+
+-- a day without any stretch held, which is below scale
+pub record Quiet (d : ClosedDay) : Type 0 where
+  pub none : heldIn d ≡ []
+  pub belowScale : d .closing .ldn ≡ below-scale
+
+abbrev pub Each : (ClosedDay → Type 0) → List ClosedDay → Type 0
+Each P [] = Unit
+Each P (d ∷ ds) = P d × Each P ds
+
+-- M is 864000 * D, G + 1 becomes G + 3 and r + 1 becomes r + 2
+abbrev pub MeanAccurate : ℕ → List ClosedDay → Reading → Type 0
+MeanAccurate K days = Accurate 3 2 0 K (dayTicks * length days) (samplesOf days)
+
+-- a mean is given where the number of days is right, and such days are refused for their number alone
+abbrev pub MeanDemanded : (fewest most K : ℕ) → List ClosedDay → Outcome Reading → Type 0
+MeanDemanded fewest most K days (given r) = (isCountWrong fewest most (length days) ≡ false) × MeanAccurate K days r
+MeanDemanded fewest most K days (refused n) = (n ≡ 13) × (isCountWrong fewest most (length days) ≡ true)
 
 -- for every K and all such days, whatever their calls: the mean of a week and that of a year
 unfoldable pub MeanClaim : Type 0
 MeanClaim =
-    (K : ℕ) (days : List MeasuredDay)
+    (K : ℕ) (days : List ClosedDay) → Each Measured days
     → MeanDemanded 7 7 K days (weekMeanOf (readings (recordsOf days)))
     × MeanDemanded 1 366 K days (yearMeanOf (readings (recordsOf days)))
+
+-- beside the claim: quiet days may stand among the days where the mean is on the scale
+unfoldable pub QuietLaw : Type 0
+QuietLaw =
+    (K : ℕ) (days : List ClosedDay) → Each (λ d. Measured d ⊎ Quiet d) days → (r : ℕ)
+    → (weekMeanOf (readings (recordsOf days)) ≡ given (level r) → MeanAccurate K days (level r))
+    × (yearMeanOf (readings (recordsOf days)) ≡ given (level r) → MeanAccurate K days (level r))
 
 -- Demand 3 whole: offers, closings and both means
 unfoldable pub Demand3 : Type 0

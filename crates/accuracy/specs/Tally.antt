@@ -1,16 +1,17 @@
 -- Document 01, 'Day': the plain tally of demand 3. It is fed the arguments of opening and of each offer and closing, and no answers.
 use mathlib.Core.Bool.{Bool, true, false, cond}
 use mathlib.Core.List.{List, [], _∷_, _++_}
-use Prim.Native.Nat.{ℕ, zero, suc, _+_}
+use Prim.Native.Nat.{ℕ, _+_}
 use lib.Dec.{leb, eqb}
 use lib.ListN.{length, getD, set, replicate}
-use Rattle.quantity.specs.Rules.{Rule, firstOf}
+use Rattle.quantity.specs.Rules.{Rule, firstOf, outcome, follow}
 use Rattle.level.specs.Accuracy.{Sample, weigh}
-use Rattle.event.specs.Event.{locatedOf}
+use Rattle.event.specs.Event.{eventOf}
 use Rattle.event.specs.Stretch.{stretchOf, stretchFirst, stretchEnd}
 use Rattle.ledger.specs.Book.{sumOf}
 use Rattle.ledger.specs.Offer.{Offering, offerChecks, inDaytime}
-use Rattle.closing.specs.Close.{Counts}
+use Rattle.method.specs.Method.{Counts}
+use Rattle.method.specs.declared.Count.{Count}
 
 -- the calls after opening, with their arguments: an offer, and a closing with the calibration levels before and after
 pub data Call : Type 0 where
@@ -48,12 +49,12 @@ started daytime night =
 
 -- the period of an offer, by its peak
 abbrev pub periodIn : Offering → Bool
-periodIn o = inDaytime (o .conditions) (locatedOf (o .samples))
+periodIn o = inDaytime (o .recording) (eventOf (o .samples))
 
 -- the refusals of an offer in their order, 8 against the end and 9 against the counts
 abbrev pub tallyChecks : Tally → Offering → List Rule
 tallyChecks t o =
-    let class = o .conditions .class in
+    let class = o .recording .class in
     offerChecks o
     (leb (length (t .book true)) class)
     (t .end)
@@ -71,28 +72,24 @@ counted count p class q = cond (sameAs p q) (set (count q) class (getD (count q)
 -- an offer that no rule refuses: the end, the count and the list of stretches change
 abbrev pub joined : Tally → Offering → Tally
 joined t o =
-    let c = o .conditions in
+    let r = o .recording in
     record {
       book = t .book;
-      end = c .start + stretchEnd (o .samples);
-      count = counted (t .count) (periodIn o) (c .class);
+      end = r .start .0 + stretchEnd (o .samples);
+      count = counted (t .count) (periodIn o) (r .class);
       stretches =
           record {
             daytime = periodIn o;
-            from = c .start + stretchFirst (o .samples);
-            to = c .start + stretchEnd (o .samples);
+            from = r .start .0 + stretchFirst (o .samples);
+            to = r .start .0 + stretchEnd (o .samples);
             levels = stretchOf (o .samples);
           }
           ∷ t .stretches;
     }
 
 -- one call: an offer that a rule refuses is left out, and a closing, refused or not, changes nothing
-abbrev pub ifNone : ℕ → Tally → Tally → Tally
-ifNone zero t next = next
-ifNone (suc n) t next = t
-
 abbrev pub tallied : Tally → Call → Tally
-tallied t (offering o) = ifNone (firstOf (tallyChecks t o)) t (joined t o)
+tallied t (offering o) = follow (outcome (firstOf (tallyChecks t o)) (joined t o)) (λ n. t) (λ next. next)
 tallied t (closing before after) = t
 
 -- a list of calls, the first of the list first
@@ -100,19 +97,23 @@ abbrev pub tallyOf : Tally → List Call → Tally
 tallyOf t [] = t
 tallyOf t (c ∷ cs) = tallyOf (tallied t c) cs
 
--- the numbers that choose the method: Nd and Nn of the book, the primed ones from the counts
+-- the numbers that choose the method: Nd and Nn of the book, the primed ones from the counts, and those of each class
+abbrev pub tallyCount : Tally → Bool → Count
+tallyCount t p = record { flights = sumOf (t .book p); events = sumOf (t .count p) }
+
+abbrev pub tallyClass : Tally → ℕ → Count
+tallyClass t k =
+    record {
+      flights = getD (t .book true) k 0 + getD (t .book false) k 0;
+      events = getD (t .count true) k 0 + getD (t .count false) k 0;
+    }
+
 abbrev pub tallyCounts : Tally → Counts
 tallyCounts t =
     record {
-      dayFlights = sumOf (t .book true);
-      nightFlights = sumOf (t .book false);
-      dayEvents = sumOf (t .count true);
-      nightEvents = sumOf (t .count false);
-      share = λ k.
-          record {
-            flights = getD (t .book true) k 0 + getD (t .book false) k 0;
-            events = getD (t .count true) k 0 + getD (t .count false) k 0;
-          };
+      classes = length (t .book true);
+      totals = record { daytime = tallyCount t true; night = tallyCount t false };
+      class = tallyClass t;
     }
 
 -- the samples of the stretches, each with the weight of its period

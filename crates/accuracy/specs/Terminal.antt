@@ -9,6 +9,6 @@ abbrev pub dayAfter : Day → Call → Day
 dayAfter day (offering o) = offered day o .day
 dayAfter day (closing before after) = day
 
-abbrev pub dayOf : Day → List Call → Day
-dayOf day [] = day
-dayOf day (c ∷ cs) = dayOf (dayAfter day c) cs
+abbrev pub dayAfterCalls : Day → List Call → Day
+dayAfterCalls day [] = day
+dayAfterCalls day (c ∷ cs) = dayAfterCalls (dayAfter day c) cs

@@ -1,19 +1,65 @@
--- What closing answers, refused and not, and what is known where neither rule refuses.
-use mathlib.Core.Path.{_≡_, refl}
-use mathlib.Core.Bool.{true, _||_}
-use Prim.Native.Nat.{ℕ, zero, suc, _<_}
+-- What closing answers, by the drift of the calibration and the method that the counts choose.
+use mathlib.Core.Path.{_≡_, refl, sym, ap, _∙_}
+use mathlib.Core.Bool.{Bool, true, false, not, _||_}
+use mathlib.Core.List.{[], _∷_}
+use Prim.Native.Nat.{ℕ, _<_}
 use native.Mathlib.Omega.{arith}
-use lib.Dec.{lit<}
-use borrow.Author.Tests.{not-false}
-use Rattle.quantity.specs.Rules.{firstOf}
-use Rattle.quantity.proofs.Refusing.{pass}
-use Rattle.closing.specs.Close.{Counts, methodOneHolds, methodTwoHolds, closeRules, CloseResult, refused, ifCloses}
+use borrow.Author.Needs.{needs}
+use borrow.Author.Tests.{not-false, leb-true}
+use lib.Dec.{leb, ltb, eqb, lit<}
+use Rattle.quantity.specs.Answers.{Reading, highestReading}
+use Rattle.quantity.specs.Rules.{firstOf, refused, given}
+use Rattle.quantity.proofs.Outcomes.{given-value, refused-alike, given-alike}
+use Rattle.quantity.proofs.Refusing.{skip, stop, pass}
+use Rattle.quantity.proofs.Tests.{test, both}
+use Rattle.ledger.specs.Book.{mostClasses}
+use Rattle.ledger.specs.Day.{energyIn}
+use Rattle.ledger.specs.declared.Day.{Day}
+use Rattle.method.specs.Method.{distance, Counts, allOf, sharesHold, methodOneHolds, methodTwoHolds, hasMethod, methodBy, methodRule, methodOf, totalsOf, countsOf}
+use Rattle.closing.specs.Formula.{formulaBy, levelBy}
+use Rattle.closing.specs.Close.{Closing, largestDrift, closeRules, closingOf, closed}
 
--- a rule that refuses gives the answer
-pub refused-with : (n : ℕ) (x : CloseResult) → 0 < n → refused n ≡ ifCloses n x
-refused-with zero x h = absurd (omega arith)
-refused-with (suc n) x h = refl
+-- a formula that is used divides by a number above 0
+pub divisor-positive : (c : Counts) → hasMethod c ≡ true → 0 < formulaBy (methodBy c) (c .totals) .divisor
+divisor-positive c h =
+    let held = both (not (eqb (c .classes) 0)) (methodOneHolds (c .totals) || methodTwoHolds (c .totals) (c .class)) h .1 in
+    let all = allOf (c .totals) in
+    test (methodOneHolds (c .totals))
+    (λ t. rw t (lit< tt))
+    (λ f. rw f (omega (arith, leb-true 1 (all .events) (both (leb 1 (all .events)) (sharesHold all (c .class) mostClasses) (rw f at held) .0))))
 
--- where no rule refuses, either method's conditions hold
-pub method-found : (before after : ℕ) (c : Counts) → firstOf (closeRules before after c) ≡ 0 → (methodOneHolds c || methodTwoHolds c) ≡ true
-method-found before after c e = not-false _ (pass (closeRules before after c) (lit< tt, (lit< tt, tt)) e .1 .0)
+pub divides : (c : Counts) {m : ℕ} → methodOf c ≡ given m → 0 < formulaBy m (c .totals) .divisor
+divides c e =
+    let g = given-value (firstOf (methodRule c ∷ [])) e in
+    rw (← g .1) (divisor-positive c (not-false _ (pass (methodRule c ∷ []) (search needs) (g .0) .0)))
+
+-- 11
+pub drifted : (day : Day) (before after : ℕ) → ltb largestDrift (distance before after) ≡ true → refused 11 ≡ closed day before after
+drifted day before after h =
+    let z : firstOf (closeRules before after (countsOf day)) ≡ 11 = stop _ _ h in
+    rw z
+
+-- no drift: 12, or the closing by the method
+module _ (day : Day) (before after : ℕ) (steady : ltb largestDrift (distance before after) ≡ false) where
+  rules : firstOf (closeRules before after (countsOf day)) ≡ firstOf (methodRule (countsOf day) ∷ [])
+  rules = skip _ _ steady
+
+  pub no-method : {k : ℕ} → methodOf (countsOf day) ≡ refused k → refused k ≡ closed day before after
+  no-method e =
+      let c = countsOf day in
+      rw rules (sym (refused-alike (firstOf (methodRule c ∷ [])) (methodBy c) (closingOf day) e))
+
+  pub by-method : {m : ℕ} → methodOf (countsOf day) ≡ given m → {l : Reading}
+      → l ≡ levelBy (formulaBy m (totalsOf day)) (energyIn (day .daytime)) (energyIn (day .night))
+      → given (record {
+        ldn = l;
+        method = m;
+        dayEvents = totalsOf day .daytime .events;
+        nightEvents = totalsOf day .night .events;
+        highest = highestReading (day .highest);
+      })
+      ≡ closed day before after
+  by-method e r =
+      let c = countsOf day in
+      let m = given-value (firstOf (methodRule c ∷ [])) e .1 in
+      rw (rules, given-alike (firstOf (methodRule c ∷ [])) (methodBy c) (closingOf day) e, r, ← m)

@@ -1,3 +1,3 @@
--- What the contracts of `closing` cite: what closing answers, and the numbers that it counts.
+-- What the contracts of `closing` cite: the two formulas, and closing a day.
+pub mod Formula
 pub mod Close
-pub mod Total

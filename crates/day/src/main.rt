@@ -7,7 +7,8 @@
 ghost use mathlib.Core.Path.{_≡_};
 ghost use Prim.Native.Nat.{_≤_};
 ghost use lib.ListN.{length};
-ghost use Rattle.steps.specs.Machine.{stateOf, isDone, longestNeed};
+ghost use Rattle.power.specs.Power.{IsTable};
+ghost use Rattle.steps.specs.Machine.{isDone, longestNeed};
 ghost use Rattle.day.specs.Turn.{Turned};
 use libc::STDOUT_FILENO;
 use steps::Came;
@@ -23,17 +24,17 @@ struct Turn {
 }
 
 // Sees that enough is held, and makes a step on it.
-fn take_turn(held: &mut [u8], last: Turn) -> Turn
-    requires { ⌜ (last .at ≤ last .end) × (last .end ≤ length (now held)) × (longestNeed ≤ length (now held)) ⌝ }
+fn take_turn(table: &[u64; 1000], room: &mut [u16; 6000], held: &mut [u8], last: Turn) -> Turn
+    requires { ⌜ IsTable (now table) × (longestNeed ≤ length (now held)) ⌝ }
     ensures { λ r. ⌜ Turned (now (held .entry)) last (now (held .exit)) r ⌝ }
 {
     let reader = last.reader;
     let at = last.at;
     let end = last.end;
-    let rest = stream::ready(held, at, end, steps::longest_need());
+    let rest = stream::hold_enough(held, at, end, steps::longest_need());
     let from = rest.at;
     let to = rest.end;
-    let step = steps::step(reader, &held[from..to], rest.ended);
+    let step = steps::step_with(table, reader, &held[from..to], rest.ended, room);
     let next = step.reader;
     let came = step.came;
     Turn {
@@ -47,7 +48,7 @@ fn take_turn(held: &mut [u8], last: Turn) -> Turn
 
 // Whether the last line is written.
 fn is_over(turn: Turn) -> bool
-    ensures { λ r. ⌜ r ≡ isDone (stateOf (turn .reader)) ⌝ }
+    ensures { λ r. ⌜ r ≡ isDone (turn .reader) ⌝ }
 {
     let reader = turn.reader;
     steps::is_done(reader)
@@ -61,8 +62,8 @@ fn write_line(came: Came) {
 }
 
 // Takes turns until the last line is written. At first nothing is held, at the end of the buffer.
-fn run(held: &mut [u8])
-    requires { ⌜ longestNeed ≤ length (now held) ⌝ }
+fn run(table: &[u64; 1000], room: &mut [u16; 6000], held: &mut [u8])
+    requires { ⌜ IsTable (now table) × (longestNeed ≤ length (now held)) ⌝ }
 {
     let size = held.len();
     let reader = steps::fresh();
@@ -74,14 +75,17 @@ fn run(held: &mut [u8])
         came: Came::Nothing,
     };
     while !is_over(turn) {
-        let next = take_turn(held, turn);
+        let next = take_turn(table, room, held, turn);
         turn = next;
         let came = next.came;
         write_line(came);
     }
 }
 
+// The table of mantissas and the room for samples are made once.
 fn main() {
+    let table = power::mantissas();
+    let mut room = [0u16; 6000];
     let mut held = io::large_buffer();
-    run(&mut held);
+    run(&table, &mut room, &mut held);
 }

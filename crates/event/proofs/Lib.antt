@@ -2,4 +2,4 @@
 pub mod Turns
 pub mod Runs
 pub mod Whole
-pub mod Exposure
+pub mod Accuracy

@@ -2,5 +2,7 @@
 pub mod Clock
 pub mod Window
 pub mod Stretch
-pub mod Run
 pub mod Event
+-- the code's own machinery, which a reader of the papers can leave out
+pub mod Run
+pub mod Exposing

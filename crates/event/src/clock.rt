@@ -1,4 +1,4 @@
-// The numbers that hang on the clock: ten samples a second, the day's length, the longest window, the hours of daytime.
+// The numbers that depend on the clock: ten samples a second, the day's length, the longest window, the hours of daytime.
 pub const SAMPLES_A_SECOND: u64 = 10;
 
 pub const DAY_TICKS: u32 = 864000;

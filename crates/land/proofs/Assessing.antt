@@ -12,10 +12,11 @@ use mir.Syntax.{w32}
 use mir.Val.{SFits}
 use borrow.Author.Tests.{leb-true}
 use Rattle.quantity.specs.Answers.{Reading}
-use Rattle.quantity.specs.Rules.{Outcome}
+use Rattle.quantity.specs.Limits.{highestDayLevel}
+use Rattle.quantity.specs.Rules.{Outcome, refused, follow}
 use Rattle.land.specs.Classes.{I, IV, limitOf}
 use Rattle.land.specs.Answers.{classNumber}
-use Rattle.land.specs.Verdict.{exceeds, unknownClass, landClassOf, verdictOf, verdictOn}
+use Rattle.land.specs.Verdict.{exceeds, unknownClass, landClassOf, verdictOf}
 use Rattle.land.specs.declared.LandClass.{LandClass}
 use Rattle.land.specs.declared.LandClass.the-variants.{One, Two, Three, Four}
 use Rattle.quantity.proofs.Refusing.{skip, stop, end}
@@ -28,7 +29,7 @@ known-class Three = refl
 known-class Four = refl
 
 -- no limit exceeds the highest level of a record
-pub limit-low : (class : LandClass) → exceeds (limitOf (classNumber class)) 20000 ≡ false
+pub limit-low : (class : LandClass) → exceeds (limitOf (classNumber class)) highestDayLevel ≡ false
 limit-low One = refl
 limit-low Two = refl
 limit-low Three = refl
@@ -51,13 +52,13 @@ mag-difference a (suc b) n h k = go (ltb a (suc b)) where
   go false = omega arith
 
 -- so the difference of two levels of a record fits 32 bits
-pub difference-fits : {a b : ℕ} → a ≤ 20000 → b ≤ 20000 → SFits w32 (pos a -ℤ pos b)
-difference-fits {a} {b} h k = record { sfits = omega (arith, mag-difference a b 20000 h k) }
+pub difference-fits : {a b : ℕ} → a ≤ highestDayLevel → b ≤ highestDayLevel → SFits w32 (pos a -ℤ pos b)
+difference-fits {a} {b} h k = record { sfits = omega (arith, mag-difference a b highestDayLevel h k) }
 
 -- a verdict on a class that is looked up is the verdict on the class
 pub looked-up : (class : ℕ) {land : Outcome ℕ} → land ≡ landClassOf class → (yearly : Reading) (sensitive : Bool) (highest : Option ℕ)
-    → verdictOn land yearly sensitive highest ≡ verdictOf class yearly sensitive highest
+    → follow land refused (λ k. verdictOf k yearly sensitive highest) ≡ verdictOf class yearly sensitive highest
 looked-up class p yearly sensitive highest = rw p (go (unknownClass class .refuses) refl) where
-  go : (b : Bool) → unknownClass class .refuses ≡ b → verdictOn (landClassOf class) yearly sensitive highest ≡ verdictOf class yearly sensitive highest
+  go : (b : Bool) → unknownClass class .refuses ≡ b → follow (landClassOf class) refused (λ k. verdictOf k yearly sensitive highest) ≡ verdictOf class yearly sensitive highest
   go true e = rw (stop (unknownClass class) [] e, stop (unknownClass class) _ e)
   go false e = rw (skip (unknownClass class) [] e, end)

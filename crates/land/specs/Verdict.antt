@@ -8,7 +8,8 @@ use lib.IntN.{ℤ, pos, _-ℤ_}
 use lib.Signed.{ltZ}
 use Rattle.quantity.specs.Answers as quantity
 use Rattle.quantity.specs.Answers.{Reading}
-use Rattle.quantity.specs.Rules.{Rule, firstOf, Outcome, refused, given, outcome}
+use Rattle.quantity.specs.Limits.{highestSample, highestDayLevel}
+use Rattle.quantity.specs.Rules.{Rule, firstOf, Outcome, outcome}
 use Rattle.land.specs.Classes.{I, II, IV, limitOf}
 
 -- what 'the verdict names': no limit, or whether the level and whether the maximum is over
@@ -42,9 +43,13 @@ abbrev pub negative : Option ℤ → Bool
 negative (some margin) = ltZ margin (pos 0)
 negative none = false
 
+-- 'Verdict': Lmax at a sensitive building
+abbrev pub highestMaximum : ℕ
+highestMaximum = 9000
+
 -- 'Verdict', over maximum: class I or II, sensitive building, Lmax > 9000
 abbrev pub overMaximum : ℕ → Bool → Option ℕ → Bool
-overMaximum class sensitive highest = leb class II && (sensitive && exceeds highest 9000)
+overMaximum class sensitive highest = leb class II && (sensitive && exceeds highest highestMaximum)
 
 -- 'Verdict': no limit where the class has none
 abbrev pub findingOf : Option ℕ → Option ℤ → Bool → Finding
@@ -59,8 +64,8 @@ unknownClass class = record { number = 15; refuses = not (leb I class && leb cla
 abbrev pub refusals : ℕ → Option ℕ → Option ℕ → List Rule
 refusals class yearly highest =
     unknownClass class
-    ∷ record { number = 14; refuses = exceeds yearly 20000 }
-    ∷ record { number = 4; refuses = exceeds highest 14000 }
+    ∷ record { number = 14; refuses = exceeds yearly highestDayLevel }
+    ∷ record { number = 4; refuses = exceeds highest highestSample }
     ∷ []
 
 -- the class of a land code, or refusal 15
@@ -75,8 +80,3 @@ verdictOf class yearly sensitive highest =
       finding = findingOf (limitOf class) (marginOf (limitOf class) (inScale yearly)) (overMaximum class sensitive highest);
       margin = marginOf (limitOf class) (inScale yearly);
     })
-
--- the same for a class that was looked up first, where a refusal stands
-abbrev pub verdictOn : Outcome ℕ → Reading → Bool → Option ℕ → Outcome Assessment
-verdictOn (refused number) yearly sensitive highest = refused number
-verdictOn (given class) yearly sensitive highest = verdictOf class yearly sensitive highest

@@ -4,6 +4,8 @@ ghost use Prim.Native.Nat.{_≤_};
 ghost use mathlib.Core.Bool.{false};
 ghost use lib.IntN.{pos, _-ℤ_};
 ghost use Rattle.quantity.specs.Answers.{reading, highestReading};
+ghost use Rattle.quantity.specs.Limits.{highestDayLevel};
+ghost use Rattle.quantity.specs.Rules.{refused, follow};
 ghost use Rattle.land.specs.Classes.{classOf, limitOf};
 ghost use Rattle.land.specs.Answers.{
   classNumber,
@@ -23,12 +25,14 @@ ghost use Rattle.land.specs.Verdict.{
   findingOf,
   landClassOf,
   verdictOf,
-  verdictOn,
 };
 use quantity::HighestLevel;
 use quantity::Level;
 use quantity::Reading;
 use quantity::Refusal;
+
+// Lmax at a sensitive building is not above it.
+const HIGHEST_MAXIMUM: u32 = 9000;
 
 // The classes of land use, I to IV.
 pub enum LandClass {
@@ -173,7 +177,7 @@ fn highest_exceeds(highest: HighestLevel, bound: u32) -> bool
 
 // A limit minus a level.
 fn difference(limit: u32, level: u32) -> i32
-    requires { ⌜ (limit ≤ 20000) × (level ≤ 20000) ⌝ }
+    requires { ⌜ (limit ≤ highestDayLevel) × (level ≤ highestDayLevel) ⌝ }
     ensures { λ r. ⌜ r ≡ pos limit -ℤ pos level ⌝ }
 {
     (limit as i32) - (level as i32)
@@ -195,7 +199,7 @@ fn over_maximum(class: LandClass, sensitive: bool, highest: HighestLevel) -> boo
 {
     if class_number(class) <= 2 {
         if sensitive {
-            highest_exceeds(highest, 9000)
+            highest_exceeds(highest, HIGHEST_MAXIMUM)
         } else {
             false
         }
@@ -223,9 +227,9 @@ fn named(level: bool, maximum: bool) -> Finding
     }
 }
 
-// The margin of a year's level to a limit, both at most 20000.
+// The margin of a year's level to a limit, neither above the highest level of a record.
 fn margin_of(limit: Limit, yearly: Reading) -> Margin
-    requires { ⌜ (exceeds (limitReading limit) 20000 ≡ false) × (exceeds (inScale (reading yearly)) 20000 ≡ false) ⌝ }
+    requires { ⌜ (exceeds (limitReading limit) highestDayLevel ≡ false) × (exceeds (inScale (reading yearly)) highestDayLevel ≡ false) ⌝ }
     ensures { λ r. ⌜ marginReading r ≡ marginOf (limitReading limit) (inScale (reading yearly)) ⌝ }
 {
     match limit {
@@ -256,10 +260,10 @@ fn assess(
 ) -> VerdictAnswer
     ensures { λ r. ⌜ verdictReading r ≡ verdictOf (classNumber class) (reading yearly) sensitive (highestReading highest) ⌝ }
 {
-    if yearly_exceeds(yearly, 20000) {
+    if yearly_exceeds(yearly, quantity::HIGHEST_DAY_LEVEL) {
         return VerdictAnswer::Refused(Refusal::RecordLevelTooHigh);
     }
-    if highest_exceeds(highest, 14000) {
+    if highest_exceeds(highest, quantity::HIGHEST_SAMPLE) {
         return VerdictAnswer::Refused(Refusal::LevelTooHigh);
     }
     let limit = limit_of(class);
@@ -275,7 +279,7 @@ fn verdict_on(
     sensitive: bool,
     highest: HighestLevel,
 ) -> VerdictAnswer
-    ensures { λ r. ⌜ verdictReading r ≡ verdictOn (landClassReading land) (reading yearly) sensitive (highestReading highest) ⌝ }
+    ensures { λ r. ⌜ verdictReading r ≡ follow (landClassReading land) refused (λ class. verdictOf class (reading yearly) sensitive (highestReading highest)) ⌝ }
 {
     match land {
         LandClassAnswer::Known(class) => assess(class, yearly, sensitive, highest),

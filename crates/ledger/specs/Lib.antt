@@ -2,3 +2,5 @@
 pub mod Book
 pub mod Day
 pub mod Offer
+-- the code's own machinery, which a reader of the papers can leave out
+pub mod Entering

@@ -59,10 +59,6 @@ said d M S p h = subst (Answers d M S) h (answers d M S p)
 pub answered : (d M S : ℕ) (a : Reading) → 0 < M → Answers d M S a → a ≡ levelOf d M S
 answered d M S a p h = only d M S a (levelOf d M S) h (answers d M S p)
 
--- no level above the answer is reached
-pub largest : (d M S r c : ℕ) → 0 < M → levelOf d M S ≡ level r → M * e (c + d) ≤ S → c ≤ r
-largest d M S r c p h l = omega (arith, lt-of-product M (lt-of-le-of-lt l (said d M S p h .1)))
-
 -- the divisor may be divided out, since a level's power is whole
 pub divided : (M S : ℕ) → 0 < M → levelOf 0 1 (S / M) ≡ levelOf 0 M S
 divided M S p = answered 0 M S _ p (go (levelOf 0 1 (S / M)) (answers 0 1 (S / M) (lit< tt)))

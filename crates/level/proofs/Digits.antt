@@ -16,35 +16,35 @@ positive : (t : ℕ) → 0 < 10 ^ t
 positive t = one-le-pow t 10 (lit< tt)
 
 -- one digit fewer
-pub leads-fewer : {n digits tens : ℕ} → 10 * G ≤ digits → Leads n digits tens → Leads n (digits / 10) (tens + 1)
-leads-fewer {n} {digits} {tens} h l =
+pub leads-fewer : {n digits omitted : ℕ} → 10 * G ≤ digits → Leads n digits omitted → Leads n (digits / 10) (omitted + 1)
+leads-fewer {n} {digits} {omitted} h l =
     record {
-      cut = rw (l .cut, add-one, pow-suc) (div-div-eq-div-mul n (10 ^ tens) 10);
+      cut = rw (l .cut, add-one, pow-suc) (div-div-eq-div-mul n (10 ^ omitted) 10);
       kept = λ _. omega arith;
     }
 
 -- the loop that leaves out digits, one a turn: at the start fewer than twenty, at the end ten
-pub record Shortening (first start digits tens : ℕ) : Type 0 where
-  pub same : (n : ℕ) → Leads n first start → Leads n digits tens
-  pub from : start ≤ tens
-  pub most : tens ≤ start + 10
-  pub room : digits < 10 ^ (start + 20 - tens)
+pub record Shortening (first start digits omitted : ℕ) : Type 0 where
+  pub same : (n : ℕ) → Leads n first start → Leads n digits omitted
+  pub from : start ≤ omitted
+  pub most : omitted ≤ start + 10
+  pub room : digits < 10 ^ (start + 20 - omitted)
 
 pub shortening-starts : {first start : ℕ} → first < 2 ^ 64 → Shortening first start first start
 shortening-starts {first} {start} h =
     let k : start + 20 - start ≡ 20 = omega arith in
     record { same = λ n l. l; from = omega arith; most = omega arith; room = rw k (omega arith) }
 
-module _ {first start digits tens : ℕ} (p : Shortening first start digits tens) where
-  pub shortening-few : 10 * G ≤ digits → tens < start + 10
+module _ {first start digits omitted : ℕ} (p : Shortening first start digits omitted) where
+  pub shortening-few : 10 * G ≤ digits → omitted < start + 10
   shortening-few h = lt-of-not-le (λ l.
-      let k : start + 20 - tens ≡ 10 = omega arith in
+      let k : start + 20 - omitted ≡ 10 = omega arith in
       omega (arith, rw k at p.room))
 
-  pub shortening-turn : 10 * G ≤ digits → Shortening first start (digits / 10) (tens + 1)
+  pub shortening-turn : 10 * G ≤ digits → Shortening first start (digits / 10) (omitted + 1)
   shortening-turn h =
       let few = shortening-few h in
-      let k : start + 20 - tens ≡ suc (start + 20 - (tens + 1)) = omega arith in
+      let k : start + 20 - omitted ≡ suc (start + 20 - (omitted + 1)) = omega arith in
       record {
         same = λ n l. leads-fewer h (p .same n l);
         from = omega arith;
@@ -68,19 +68,19 @@ between-ends {digits} {low} {high} p h =
     record { place = omega (arith, p .order, p .end); low = p .reached; high = rw (← e) (p .missed) }
 
 -- ten digits or fewer are below the scale where they do not reach its first mantissa
-pub digits-below : {n digits tens : ℕ} → digits < G → Leads n digits tens → below-scale ≡ levelOf 0 1 n
-digits-below {n} {digits} {tens} h l =
-    let some : 0 < tens → ⊥ = λ z. omega (arith, l .kept z) in
-    let none : tens ≡ 0 = omega arith in
+pub digits-below : {n digits omitted : ℕ} → digits < G → Leads n digits omitted → below-scale ≡ levelOf 0 1 n
+digits-below {n} {digits} {omitted} h l =
+    let some : 0 < omitted → ⊥ = λ z. omega (arith, l .kept z) in
+    let none : omitted ≡ 0 = omega arith in
     let all : digits ≡ n = l .cut ∙ (rw (none, pow-zero) (div-one n)) in
     answered 0 1 n below-scale (lit< tt) (rw e-zero (omega arith))
 
 -- and else show the level
-pub digits-level : {n digits tens f : ℕ} → Found digits f → Leads n digits tens → level (1000 * tens + f) ≡ levelOf 0 1 n
-digits-level {n} {digits} {tens} {f} p l =
-    let c = 1000 * tens + f in
-    let low : m f * 10 ^ tens ≤ n = le-div-iff-mul-le (positive tens) .0 (rw (l .cut) at (p .low)) in
-    let high : n < m (f + 1) * 10 ^ tens = div-lt-iff-lt-mul (positive tens) .0 (rw (l .cut) at (p .high)) in
-    let at : e c ≡ m f * 10 ^ tens = e-at tens f (omega arith) in
-    let next : e (c + 1) ≡ m (f + 1) * 10 ^ tens = rw (add-assoc (1000 * tens) f 1) (e-at tens (f + 1) (omega arith)) in
+pub digits-level : {n digits omitted f : ℕ} → Found digits f → Leads n digits omitted → level (1000 * omitted + f) ≡ levelOf 0 1 n
+digits-level {n} {digits} {omitted} {f} p l =
+    let c = 1000 * omitted + f in
+    let low : m f * 10 ^ omitted ≤ n = le-div-iff-mul-le (positive omitted) .0 (rw (l .cut) at (p .low)) in
+    let high : n < m (f + 1) * 10 ^ omitted = div-lt-iff-lt-mul (positive omitted) .0 (rw (l .cut) at (p .high)) in
+    let at : e c ≡ m f * 10 ^ omitted = e-at omitted f (omega arith) in
+    let next : e (c + 1) ≡ m (f + 1) * 10 ^ omitted = rw (add-assoc (1000 * omitted) f 1) (e-at omitted (f + 1) (omega arith)) in
     answered 0 1 n (level c) (lit< tt) (rw (add-zero c, one-mul (e c), at) low, rw (add-zero (c + 1), one-mul (e (c + 1)), next) high)

@@ -2,19 +2,7 @@
 use mathlib.Core.Path.{_≡_, refl, ap, sym, _∙_}
 use mathlib.Core.List.{List}
 use Prim.Native.Nat.{ℕ, _+_, _*_, _/_, _%_, _^_, _≤_, _<_}
-use native.Mathlib.Nat.{
-  pow-zero,
-  div-one,
-  div-eq-of-lt,
-  div-div-eq-div-mul,
-  mod-lt,
-  mod-eq-of-lt,
-  pow-le-pow-right,
-  one-le-pow,
-  lt-of-lt-of-le,
-  le-trans,
-  lt-of-not-le,
-}
+use native.Mathlib.Nat.{pow-zero, div-one, div-eq-of-lt, div-div-eq-div-mul, mod-lt, mod-eq-of-lt, pow-le-pow-right, one-le-pow, lt-of-lt-of-le, le-trans, lt-of-not-le}
 use native.Mathlib.Omega.{arith}
 use lib.Dec.{lit<, lit≤}
 use lib.ListN.{length}
@@ -24,11 +12,11 @@ use Rattle.limbs.proofs.Digits.{value-limbsOf}
 use Rattle.level.specs.Leading.{Leads}
 
 -- the limbs q are the leading digits of the number of first, whose six limbs are fewer than 58 digits
-pub record Reducing (first q : List ℕ) (tens : ℕ) : Type 0 where
+pub record Reducing (first q : List ℕ) (omitted : ℕ) : Type 0 where
   pub size : length q ≡ 6
-  pub leads : Leads (value first) (value q) tens
+  pub leads : Leads (value first) (value q) omitted
   pub room : value first < base ^ 6
-  pub most : tens ≤ 66
+  pub most : omitted ≤ 66
 
 -- a quotient by itself
 pub reducing-starts : (q : List ℕ) (n k : ℕ) → k ≡ 6 → length q ≡ k → q ≡ limbsOf k n → Reducing q q 0
@@ -40,28 +28,28 @@ reducing-starts q n k s l h =
       most = omega arith;
     }
 
-module _ {first q : List ℕ} {tens : ℕ} (p : Reducing first q tens) where
+module _ {first q : List ℕ} {omitted : ℕ} (p : Reducing first q omitted) where
   -- a number that passes 64 bits has had fewer than 58 digits left out
-  pub reducing-few : base * base ≤ value q → tens < 58
+  pub reducing-few : base * base ≤ value q → omitted < 58
   reducing-few h = lt-of-not-le (λ l.
-      let none : value first / 10 ^ tens ≡ 0 =
+      let none : value first / 10 ^ omitted ≡ 0 =
       div-eq-of-lt (lt-of-lt-of-le (p .room) (le-trans {m = 10 ^ 58} (lit≤ tt) (pow-le-pow-right {n = 10} (lit< tt) l))) in
       omega (arith, p .leads .cut ∙ none))
 
-  pub reducing-turn : {r : List ℕ} → length r ≡ length q → base * base ≤ value q → value r ≡ value q / 10 ^ 9 → Reducing first r (tens + 9)
+  pub reducing-turn : {r : List ℕ} → length r ≡ length q → base * base ≤ value q → value r ≡ value q / 10 ^ 9 → Reducing first r (omitted + 9)
   reducing-turn l h e =
       record {
         size = l ∙ p .size;
         leads =
             record {
-              cut = e ∙ ap (λ (n : ℕ). n / 10 ^ 9) (p .leads .cut) ∙ div-div-eq-div-mul (value first) (10 ^ tens) (10 ^ 9) ∙ (rw (pow-add 10 tens 9) refl);
+              cut = e ∙ ap (λ (n : ℕ). n / 10 ^ 9) (p .leads .cut) ∙ div-div-eq-div-mul (value first) (10 ^ omitted) (10 ^ 9) ∙ (rw (pow-add 10 omitted 9) refl);
               kept = λ _. omega arith;
             };
         room = p .room;
         most = omega (arith, reducing-few h);
       }
 
-  pub reducing-ends : value q < base * base → {d : ℕ} → d ≡ value q % (base * base) → Leads (value first) d tens
+  pub reducing-ends : value q < base * base → {d : ℕ} → d ≡ value q % (base * base) → Leads (value first) d omitted
   reducing-ends h e =
       let same = e ∙ mod-eq-of-lt h in
       record { cut = same ∙ p .leads .cut; kept = λ z. rw same (p .leads .kept z) }

@@ -9,10 +9,10 @@ ghost use Rattle.level.specs.Leading.{Leads, Found, lowered};
 use quantity::Level;
 use quantity::Reading;
 
-// A number cut to its leading digits, and the count of decimal digits that were left out.
+// A number cut to its leading digits, and the number of decimal digits that were omitted.
 pub struct Leading {
     pub digits: u64,
-    pub tens: u32,
+    pub omitted: u32,
 }
 
 // The place of the largest mantissa that is at most the digits. The range from low to high halves with each turn.
@@ -35,31 +35,31 @@ fn mantissa_place(table: &[u64; 1000], digits: u64) -> u32
 
 // The same number, cut to ten digits at the most.
 fn ten_digits(number: Leading) -> Leading
-    requires { ⌜ number .tens ≤ 100 ⌝ }
-    ensures same { λ r. ⌜ ((n : ℕ) → Leads n (number .digits) (number .tens) → Leads n (r .digits) (r .tens)) ⌝ }
-    ensures short { λ r. ⌜ (r .digits < 10 * G) × (r .tens ≤ 120) ⌝ }
+    requires { ⌜ number .omitted ≤ 100 ⌝ }
+    ensures same { λ r. ⌜ ((n : ℕ) → Leads n (number .digits) (number .omitted) → Leads n (r .digits) (r .omitted)) ⌝ }
+    ensures short { λ r. ⌜ (r .digits < 10 * G) × (r .omitted ≤ 120) ⌝ }
 {
     let mut digits = number.digits;
-    let mut tens = number.tens;
+    let mut omitted = number.omitted;
     while 10000000000 <= digits {
         digits /= 10;
-        tens += 1;
+        omitted += 1;
     }
-    Leading { digits, tens }
+    Leading { digits, omitted }
 }
 
 // The level of a number of which the leading digits are given.
 pub fn level_of_leading(table: &[u64; 1000], number: Leading) -> Reading
-    requires { ⌜ IsTable (now table) × (number .tens ≤ 100) ⌝ }
-    ensures { λ r. ⌜ ((n : ℕ) → Leads n (number .digits) (number .tens) → reading r ≡ levelOf 0 1 n) ⌝ }
+    requires { ⌜ IsTable (now table) × (number .omitted ≤ 100) ⌝ }
+    ensures { λ r. ⌜ ((n : ℕ) → Leads n (number .digits) (number .omitted) → reading r ≡ levelOf 0 1 n) ⌝ }
 {
     let short = ten_digits(number);
     let digits = short.digits;
-    let tens = short.tens;
+    let omitted = short.omitted;
     if digits < 1000000000 {
         return Reading::BelowScale;
     }
-    Reading::At(Level(1000 * tens + mantissa_place(table, digits)))
+    Reading::At(Level(1000 * omitted + mantissa_place(table, digits)))
 }
 
 // A level less an offset, or below scale.
@@ -79,18 +79,18 @@ fn lowered_by(answer: Reading, offset: u32) -> Reading
 // The quotient of a sum by a divisor, without its lowest digits where it passes 64 bits.
 fn leading_quotient(sum: [u32; 6], divisor: u32) -> Leading
     requires { ⌜ 0 < divisor ⌝ }
-    ensures { λ r. ⌜ Leads (value sum / divisor) (r .digits) (r .tens) × (r .tens ≤ 100) ⌝ }
+    ensures { λ r. ⌜ Leads (value sum / divisor) (r .digits) (r .omitted) × (r .omitted ≤ 100) ⌝ }
 {
     let mut quotient = sum;
     limbs::divide(&mut quotient, divisor);
-    let mut tens: u32 = 0;
+    let mut omitted: u32 = 0;
     while !limbs::fits_u64(&quotient) {
         limbs::divide(&mut quotient, 1000000000);
-        tens += 9;
+        omitted += 9;
     }
     Leading {
         digits: limbs::low_u64(&quotient),
-        tens,
+        omitted,
     }
 }
 

@@ -14,12 +14,6 @@ unfolding limbsOf
 length-limbsOf zero n = refl
 length-limbsOf (suc k) n = ap suc (length-limbsOf k (n / base))
 
-pub limbs-limbsOf : (k n : ℕ) → Limbs (limbsOf k n)
-unfolding limbsOf
-limbs-limbsOf zero n j = omega arith
-limbs-limbsOf (suc k) n zero = omega arith
-limbs-limbsOf (suc k) n (suc j) = limbs-limbsOf k (n / base) j
-
 -- a run of limbs, with c carried out of it, is the lowest limbs of the whole
 pub digits : (a : List ℕ) → Limbs a → (n c : ℕ) → value a + c * base ^ length a ≡ n → a ≡ limbsOf (length a) n
 unfolding value limbsOf

@@ -2,7 +2,7 @@
 use Prim.Native.Nat.{ℕ, suc, zero, _+_, _*_, _-_, _%_, _^_, _≤_, _<_}
 use mathlib.Core.Path.{_≡_, refl, ap, _∙_}
 use mathlib.Core.List.{List, [], _∷_}
-use native.Mathlib.Nat.{mul-assoc, pow-zero, pow-suc, one-le-pow, pow-le-pow-right, mul-le-mul-right, mod-eq-of-lt, lt-of-lt-of-le}
+use native.Mathlib.Nat.{mul-assoc, pow-zero, pow-suc, one-le-pow, pow-le-pow-right, mul-le-mul-right, lt-of-lt-of-le}
 use native.Mathlib.Numerals.{add-one}
 use native.Mathlib.Omega.{arith}
 use lib.ListN.{length, take, drop, getD, set}
@@ -73,10 +73,6 @@ unfolding value
 value-low [] f g = refl
 value-low (x ∷ []) f g = omega arith
 value-low (x ∷ y ∷ xs) f g = omega arith
-
--- what `low_u64` gives is the number itself where that is below base * base
-pub low-whole : (a : List ℕ) → value a < base * base → value a % (base * base) ≡ value a
-low-whole a h = mod-eq-of-lt h
 
 -- a number that is that of its i lowest limbs, seen from the top one of these
 module _ (a : List ℕ) (i : ℕ) (h : 0 < i) (w : value a ≡ value (take i a)) where

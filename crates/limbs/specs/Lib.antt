@@ -1,3 +1,3 @@
--- What the contracts of `limbs` cite: a run of limbs as a number, and the order of two numbers.
+-- What the contracts of `limbs` cite: a run of limbs as a number.
+-- the code's own machinery
 pub mod Value
-pub mod Comparison

@@ -1,3 +1,4 @@
+-- The code's own machinery, not the papers': a reader of the papers can leave it out.
 -- A natural number as a run of limbs, least first: digits to the base 2 ^ 32.
 use Prim.Native.Nat.{ℕ, suc, zero, _+_, _*_, _/_, _%_}
 use mathlib.Core.List.{List, [], _∷_}

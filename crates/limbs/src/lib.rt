@@ -5,13 +5,6 @@ ghost use Prim.Native.Nat.{_+_, _*_, _/_, _%_, _^_, _≤_, _<_};
 ghost use lib.ListN.{length, getD};
 ghost use lib.Dec.{ltb};
 ghost use Rattle.limbs.specs.Value.{base, value, limbsOf};
-ghost use Rattle.limbs.specs.Comparison.{orderOf};
-
-pub enum Order {
-    Less,
-    Equal,
-    Greater,
-}
 
 // A limb is below it.
 const BASE: u64 = 4294967296;
@@ -111,58 +104,6 @@ pub fn divide(a: &mut [u32], d: u32) -> u32
         remainder = t.remainder;
     }
     remainder
-}
-
-const POWERS_OF_TEN: [u32; 10] = [
-    1,
-    10,
-    100,
-    1000,
-    10000,
-    100000,
-    1000000,
-    10000000,
-    100000000,
-    1000000000,
-];
-
-fn power_of_ten(exponent: usize) -> u32
-    requires { ⌜ exponent < 10 ⌝ }
-    ensures { λ r. ⌜ r ≡ 10 ^ exponent ⌝ }
-{
-    POWERS_OF_TEN[exponent]
-}
-
-// `a` times 10^`exponent`, in place, in the limbs that `a` has: nine tens a pass, and one pass for those that are left.
-pub fn scale_by_power_of_ten(a: &mut [u32], exponent: u32)
-    ensures { λ _. ⌜ now (a .exit) ≡ limbsOf (length (now (a .entry))) (value (now (a .entry)) * 10 ^ exponent) ⌝ }
-{
-    let mut left = exponent;
-    while 9 <= left {
-        scale(a, 1000000000);
-        left -= 9;
-    }
-    scale(a, power_of_ten(left as usize));
-}
-
-// How `a` stands to `b`.
-pub fn compare(a: &[u32], b: &[u32]) -> Order
-    requires { ⌜ length (now a) ≡ length (now b) ⌝ }
-    ensures { λ r. ⌜ r ≡ orderOf (value (now (a .entry))) (value (now (b .entry))) ⌝ }
-{
-    let mut i = a.len();
-    while 0 < i {
-        i -= 1;
-        let x = a[i];
-        let y = b[i];
-        if x < y {
-            return Order::Less;
-        }
-        if y < x {
-            return Order::Greater;
-        }
-    }
-    Order::Equal
 }
 
 // The limb at `i`; one that `a` has not is 0.

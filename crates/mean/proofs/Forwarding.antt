@@ -38,7 +38,7 @@ use denote.Exit.{yes}
 use Rattle.quantity.specs.declared.DayAnswer.{DayAnswer}
 use Rattle.quantity.proofs.DayAnswer as T
 use Rattle.mean.specs.declared.MeanAnswer.{MeanAnswer}
-use Rattle.mean.specs.Mean.{meanResult, meanOf}
+use Rattle.mean.specs.Mean.{meanOutcome, meanOf}
 use Rattle.mean.specs.Records.{readings}
 use Rattle.mean.proofs.MeanAnswer as N
 use Rattle.mean.proofs.MeanAnswer.Laws as N′
@@ -64,7 +64,7 @@ function f m = record {
 
 -- the contract: the mean of f to m days
 abbrev pub clauses : {M : Type 1} (𝓤 : URA M) → ℕ → ℕ → Clauses 𝓤 week.ended
-clauses 𝓤 f m κs a = record { ghost = Unit {0}; requires = λ _. emp 𝓤; ensures = λ _ r _. fact 𝓤 (meanResult r ≡ meanOf f m (readings (a .0 .now))) }
+clauses 𝓤 f m κs a = record { ghost = Unit {0}; requires = λ _. emp 𝓤; ensures = λ _ r _. fact 𝓤 (meanOutcome r ≡ meanOf f m (readings (a .0 .now))) }
 
 module _ {M : Type 1} (𝓤 : URA M) (H : Heap 𝓤) (A : Atoms 𝓤) (mem : Memory → SProp 𝓤) (run : Routine → Fun 𝓤) where
   -- the contract that the proof cites
@@ -80,7 +80,7 @@ module _ {M : Type 1} (𝓤 : URA M) (H : Heap 𝓤) (A : Atoms 𝓤) (W : Given
     Own = ShrSlice (named 0) κ T.the-row .own x (s ∷ [])
 
     abbrev Right : MeanAnswer → Type 0
-    Right a = meanResult a ≡ meanOf f m (readings (x .now))
+    Right a = meanOutcome a ≡ meanOf f m (readings (x .now))
 
     abbrev bound : walkOf 𝓤 H A week.ended stayed (clauses 𝓤 f m) .Ghost
     bound = (((κ, tt), (q, tt), tt, (x, tt), (s ∷ [], tt)), tt)

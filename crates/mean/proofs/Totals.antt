@@ -2,7 +2,7 @@
 use mathlib.Core.Path.{_≡_, refl, sym, ap, _∙_}
 use mathlib.Core.Bool.{Bool, true, false, _||_, cond}
 use mathlib.Core.List.{List, [], _∷_, _++_}
-use Prim.Native.Nat.{ℕ, zero, suc, _+_, _*_, _≤_, _<_, zero-le}
+use Prim.Native.Nat.{ℕ, zero, suc, _+_, _*_, _/_, _^_, _≤_, _<_, zero-le}
 use native.Mathlib.Nat.{add-zero, le-refl}
 use native.Mathlib.Numerals.{add-one}
 use native.Mathlib.Omega.{arith}
@@ -12,7 +12,8 @@ use lib.Dec.{ltb, eqb}
 use lib.ListN.{length, take, getD, set, length-take}
 use lib.Seq.{take-suc, take-length}
 use Rattle.quantity.specs.Answers.{Reading, level, below-scale, reading, refusalNumber, checkNumber}
-use Rattle.quantity.specs.Rules.{firstOf}
+use Rattle.quantity.specs.Rules.{firstOf, Outcome, refused, given, outcome, follow}
+use Rattle.quantity.specs.Limits.{highestDayLevel}
 use Rattle.quantity.specs.declared.DayAnswer.{DayAnswer}
 use Rattle.quantity.proofs.Refusing.{pass, refusal-positive}
 use Rattle.quantity.proofs.Tests.{neither}
@@ -20,27 +21,20 @@ use Rattle.quantity.specs.declared.Check.{Check}
 use Rattle.quantity.specs.declared.Check.the-variants.{Refused}
 use Rattle.quantity.specs.declared.Refusal.{Refusal}
 use Rattle.power.specs.Power.{e, G}
-use Rattle.decades.specs.Decades.{total, withPower, Added, Readable}
-use Rattle.decades.proofs.Turns.{with-power, zeros, fresh-total}
+use Rattle.decades.specs.Sums.{total, withPower, Readable}
+use Rattle.decades.proofs.Counting.{Added, added, zeros, fresh}
 use Rattle.level.specs.Level.{levelOf}
-use Rattle.mean.specs.Mean.{energyOf, sumOf, highestDay, isTooHigh, anyTooHigh, isCountWrong, meanRules, mean, ifAllowed, meanOf}
-use Rattle.mean.specs.Records.{readings, blank, ReadResult, recordAt, found, dayReading, rewriteRules, rewriteNumber, ifWritten, rewritten}
-use Rattle.mean.specs.Records.{refused as missing}
-use Rattle.mean.specs.Total.{noDays, withDay, withRead, totalOf, daysCounted, closedOf}
+use Rattle.mean.specs.Mean.{powerOf, sumOfPowers, isTooHigh, anyTooHigh, isCountWrong, meanRules, meanOf}
+use Rattle.mean.specs.Records.{readings, blank, recordAt, DayReading, dayReading, rewriteRules, rewriteNumber, rewritten}
+use Rattle.mean.specs.Total.{noDays, withDay, withRead, totalOf, daysIfAllowed, meanOfTotal}
 use Rattle.mean.specs.declared.Total.{Total}
 
--- one day more
-pub with-high : (t : Total) {c : ℕ} → highestDay < c → record { sums = t .sums; high = true } ≡ withDay t (level c)
-with-high t h = rw (lt-ltb _ _ h)
-
-pub with-more : (t : Total) {c : ℕ} {s : List ℕ} → c ≤ highestDay → s ≡ withPower (t .sums) c → record { sums = s; high = t .high } ≡ withDay t (level c)
-with-more t h i = rw (le-ltb _ _ h, i)
-
-or-none : (a : Bool) → a ≡ (a || false)
+-- whether a level was too high
+pub or-none : (a : Bool) → a ≡ (a || false)
 or-none true = refl
 or-none false = refl
 
-or-all : (a : Bool) → true ≡ (a || true)
+pub or-all : (a : Bool) → true ≡ (a || true)
 or-all true = refl
 or-all false = refl
 
@@ -48,36 +42,27 @@ or-assoc : (a b c : Bool) → ((a || b) || c) ≡ (a || (b || c))
 or-assoc true b c = refl
 or-assoc false b c = refl
 
-day-high : (t : Total) (day : Reading) → withDay t day .high ≡ (t .high || isTooHigh day)
-day-high t (level c) = go (ltb highestDay c)
-  where
-    go : (b : Bool) → cond {A = Total} b (record { sums = t .sums; high = true }) (record { sums = withPower (t .sums) c; high = t .high }) .high ≡ (t .high || b)
-    go true = or-all (t .high)
-    go false = or-none (t .high)
-day-high t below-scale = or-none (t .high)
-
 total-high : (t : Total) (days : List Reading) → totalOf t days .high ≡ (t .high || anyTooHigh days)
 unfolding totalOf anyTooHigh
 total-high t [] = or-none (t .high)
 total-high t (day ∷ days) =
     total-high (withDay t day) days
-    ∙ ap (λ (b : Bool). b || anyTooHigh days) (day-high t day)
     ∙ or-assoc (t .high) (isTooHigh day) (anyTooHigh days)
 
 -- the sums of n days at the most
-pub record Kept (n : ℕ) (s : List ℕ) : Type 0 where
+record Kept (n : ℕ) (s : List ℕ) : Type 0 where
   pub size : length s ≡ 21
   pub most : (j : ℕ) → getD s j 0 ≤ 10 * G * n
 
 -- the power of a level that is not too high is added
-power-added : (s : List ℕ) (c : ℕ) → length s ≡ 21 → ltb highestDay c ≡ false → Added s 1 (e c) (withPower s c)
-power-added s c l h = with-power s c (omega (arith, ltb-false highestDay c h))
+power-added : (s : List ℕ) (c : ℕ) → length s ≡ 21 → ltb highestDayLevel c ≡ false → Added (λ k. 10 ^ k) s c (withPower s c)
+power-added s c l h = added (λ k. 10 ^ k) s (c / 1000) c (omega (arith, ltb-false highestDayLevel c h)) refl
 
 day-kept : (n : ℕ) (t : Total) (day : Reading) → Kept n (t .sums) → Kept (suc n) (withDay t day .sums)
 day-kept n t below-scale p = record { size = p .size; most = λ j. omega (arith, p .most j) }
-day-kept n t (level c) p = go (ltb highestDay c) refl
+day-kept n t (level c) p = go (ltb highestDayLevel c) refl
   where
-    go : (b : Bool) → ltb highestDay c ≡ b → Kept (suc n) (cond {A = Total} b (record { sums = t .sums; high = true }) (record { sums = withPower (t .sums) c; high = t .high }) .sums)
+    go : (b : Bool) → ltb highestDayLevel c ≡ b → Kept (suc n) (cond b (t .sums) (withPower (t .sums) c))
     go true q = record { size = p .size; most = λ j. omega (arith, p .most j) }
     go false q =
         let a = power-added (t .sums) c (p .size) q in
@@ -90,26 +75,30 @@ total-kept n t (day ∷ days) p =
     let e : suc n + length days ≡ n + suc (length days) = omega arith in
     rw (← e) (total-kept (suc n) (withDay t day) days (day-kept n t day p))
 
+no-days-kept : Kept 0 (noDays .sums)
+no-days-kept = record { size = refl; most = λ j. omega (arith, zeros 21 j) }
+
 pub total-readable : (days : List Reading) → length days ≤ 366 → Readable (totalOf noDays days .sums)
 total-readable days h =
-    let p = total-kept 0 noDays days (record { size = refl; most = λ j. omega (arith, zeros 21 j) }) in
+    let p = total-kept 0 noDays days no-days-kept in
     record { few = omega (arith, p .size); each = λ j. omega (arith, p .most j) }
 
-day-sum : (t : Total) (day : Reading) → length (t .sums) ≡ 21 → isTooHigh day ≡ false → Added (t .sums) 1 (energyOf day) (withDay t day .sums)
-day-sum t (level c) l h = rw h (power-added (t .sums) c l h)
-day-sum t below-scale l h = record { size = refl; whole = sym (add-zero (total (t .sums))); most = λ j. omega arith }
+day-sum : (n : ℕ) (t : Total) (day : Reading) → Kept n (t .sums) → isTooHigh day ≡ false → total (withDay t day .sums) ≡ total (t .sums) + powerOf day
+unfolding total
+day-sum n t (level c) p h = rw h (power-added (t .sums) c (p .size) h .whole)
+day-sum n t below-scale p h = sym (add-zero (total (t .sums)))
 
-total-sum : (t : Total) (days : List Reading) → length (t .sums) ≡ 21 → anyTooHigh days ≡ false → total (totalOf t days .sums) ≡ total (t .sums) + sumOf days
-unfolding totalOf anyTooHigh sumOf
-total-sum t [] l h = sym (add-zero (total (t .sums)))
-total-sum t (day ∷ days) l h =
-    let n = neither (isTooHigh day) (anyTooHigh days) h in
-    let d = day-sum t day l (n .0) in
-    omega (arith, d .whole, total-sum (withDay t day) days (d .size ∙ l) (n .1))
+total-sum : (n : ℕ) (t : Total) (days : List Reading) → Kept n (t .sums) → anyTooHigh days ≡ false → total (totalOf t days .sums) ≡ total (t .sums) + sumOfPowers days
+unfolding totalOf anyTooHigh sumOfPowers
+total-sum n t [] p h = sym (add-zero (total (t .sums)))
+total-sum n t (day ∷ days) p h =
+    let q = neither (isTooHigh day) (anyTooHigh days) h in
+    omega (arith, day-sum n t day p (q .0), total-sum (suc n) (withDay t day) days (day-kept n t day p) (q .1))
 
 -- the total of a year without a level that is too high
-year-sum : (days : List Reading) → anyTooHigh days ≡ false → total (totalOf noDays days .sums) ≡ sumOf days
-year-sum days h = omega (arith, total-sum noDays days refl h, fresh-total 21)
+year-sum : (days : List Reading) → anyTooHigh days ≡ false → total (totalOf noDays days .sums) ≡ sumOfPowers days
+unfolding total
+year-sum days h = omega (arith, total-sum 0 noDays days no-days-kept h, fresh (λ k. 10 ^ k) 21)
 
 -- the mean from the total
 counted-all : (fewest most n : ℕ) → isCountWrong fewest most n ≡ false → (fewest ≤ n) × (n ≤ most)
@@ -117,31 +106,31 @@ counted-all fewest most n h =
     let p = neither (ltb n fewest) (ltb most n) h in
     (ltb-false n fewest (p .0), ltb-false most n (p .1))
 
-pub counted-few : (fewest most n : ℕ) → most ≤ 366 → daysCounted (isCountWrong fewest most n) n ≤ 366
+pub counted-few : (fewest most n : ℕ) → most ≤ 366 → daysIfAllowed (isCountWrong fewest most n) n ≤ 366
 counted-few fewest most n h = go (isCountWrong fewest most n) refl
   where
-    go : (b : Bool) → isCountWrong fewest most n ≡ b → daysCounted b n ≤ 366
+    go : (b : Bool) → isCountWrong fewest most n ≡ b → daysIfAllowed b n ≤ 366
     go true q = zero-le
     go false q = omega (arith, counted-all fewest most n q .1)
 
-pub counted-within : (wrong : Bool) (n : ℕ) → daysCounted wrong n ≤ n
+pub counted-within : (wrong : Bool) (n : ℕ) → daysIfAllowed wrong n ≤ n
 counted-within true n = zero-le
 counted-within false n = le-refl n
 
-pub mean-closed : (fewest most : ℕ) (days : List Reading) → 0 < fewest → most ≤ 366
-    → (let n = daysCounted (isCountWrong fewest most (length days)) (length days) in closedOf (totalOf noDays (take n days)) n) ≡ meanOf fewest most days
-unfolding closedOf meanOf firstOf
-mean-closed fewest most days positive few = go (isCountWrong fewest most (length days)) refl
+pub mean-from-total : (fewest most : ℕ) (days : List Reading) → 0 < fewest → most ≤ 366
+    → (let n = daysIfAllowed (isCountWrong fewest most (length days)) (length days) in meanOfTotal (totalOf noDays (take n days)) n) ≡ meanOf fewest most days
+unfolding meanOfTotal meanOf firstOf
+mean-from-total fewest most days positive few = go (isCountWrong fewest most (length days)) refl
   where
     whole : (high : Bool) → anyTooHigh days ≡ high → length days ≤ 366
-        → ifAllowed (firstOf (meanRules false high)) (levelOf 0 (length days) (total (totalOf noDays days .sums)))
-        ≡ ifAllowed (firstOf (meanRules false high)) (levelOf 0 (length days) (sumOf days))
+        → outcome (firstOf (meanRules false high)) (levelOf 0 (length days) (total (totalOf noDays days .sums)))
+        ≡ outcome (firstOf (meanRules false high)) (levelOf 0 (length days) (sumOfPowers days))
     whole true q l = refl
-    whole false q l = ap (λ (s : ℕ). mean (levelOf 0 (length days) s)) (year-sum days q)
+    whole false q l = ap (λ (s : ℕ). given (levelOf 0 (length days) s)) (year-sum days q)
 
     go : (b : Bool) → isCountWrong fewest most (length days) ≡ b
-        → closedOf (totalOf noDays (take (daysCounted b (length days)) days)) (daysCounted b (length days))
-        ≡ ifAllowed (firstOf (meanRules b (anyTooHigh days))) (levelOf 0 (length days) (sumOf days))
+        → meanOfTotal (totalOf noDays (take (daysIfAllowed b (length days)) days)) (daysIfAllowed b (length days))
+        ≡ outcome (firstOf (meanRules b (anyTooHigh days))) (levelOf 0 (length days) (sumOfPowers days))
     go true q = refl
     go false q =
         let p = counted-all fewest most (length days) q in
@@ -170,11 +159,11 @@ total-more t days k h =
     sym (total-snoc t (take k days) (getD days k (level 0)))
     ∙ ap (totalOf t) (sym (take-suc days k (level 0) h) ∙ ap (λ (n : ℕ). take n days) (sym (add-one k)))
 
-pub record-found : (days : List DayAnswer) (place : ℕ) → place < length days → recordAt days place ≡ found (dayReading (getD days place blank))
+pub record-found : (days : List DayAnswer) (place : ℕ) → place < length days → recordAt days place ≡ given (dayReading (getD days place blank))
 unfolding recordAt firstOf
 record-found days place h = rw (lt-leb _ _ h)
 
-pub record-missing : (days : List DayAnswer) (place : ℕ) → length days ≤ place → recordAt days place ≡ missing 13
+pub record-missing : (days : List DayAnswer) (place : ℕ) → length days ≤ place → recordAt days place ≡ refused 13
 unfolding recordAt firstOf
 record-missing days place h = rw (le-leb _ _ h)
 
@@ -186,7 +175,7 @@ pub total-none : (days : List DayAnswer) → noDays ≡ totalTo days 0
 unfolding totalTo totalOf
 total-none days = refl
 
-pub total-next : (days : List DayAnswer) (k : ℕ) {t : Total} {r : ReadResult} → k < length days → r ≡ recordAt days k → t ≡ withRead (totalTo days k) r → t ≡ totalTo days (k + 1)
+pub total-next : (days : List DayAnswer) (k : ℕ) {t : Total} {r : Outcome DayReading} → k < length days → r ≡ recordAt days k → t ≡ withRead (totalTo days k) r → t ≡ totalTo days (k + 1)
 unfolding totalTo
 total-next days k h read more =
     more
@@ -201,9 +190,9 @@ records-readable days k h = total-readable (take k (readings days)) (rw length-t
 
 -- the mean of all records, where as many of them are added up as are counted
 pub mean-total : (fewest most : ℕ) (days : List DayAnswer) → 0 < fewest → most ≤ 366
-    → (let n = daysCounted (isCountWrong fewest most (length days)) (length days) in closedOf (totalTo days n) n) ≡ meanOf fewest most (readings days)
+    → (let n = daysIfAllowed (isCountWrong fewest most (length days)) (length days) in meanOfTotal (totalTo days n) n) ≡ meanOf fewest most (readings days)
 unfolding totalTo
-mean-total fewest most days positive few = rw (← length-readings days) (mean-closed fewest most (readings days) positive few)
+mean-total fewest most days positive few = rw (← length-readings days) (mean-from-total fewest most (readings days) positive few)
 
 -- a check that refuses has a number
 pub not-passed : {check : Check} {r : Refusal} → check ≡ Refused r → false ≡ eqb (checkNumber check) 0
@@ -212,16 +201,16 @@ not-passed {check} {r} h = sym (ap (λ (k : Check). eqb (checkNumber k) 0) h ∙
 -- a rewritten record
 pub not-written : (days : List DayAnswer) (place : ℕ) (new : DayAnswer) {n : ℕ} → n ≡ rewriteNumber (length days) place new → eqb n 0 ≡ false → days ≡ rewritten days place new
 unfolding rewritten
-not-written days place new {n} h f = go n f ∙ ap (λ (k : ℕ). ifWritten k (set days place new) days) h
+not-written days place new {n} h f = go n f ∙ ap (λ (k : ℕ). follow (outcome k (set days place new)) (λ _. days) (λ next. next)) h
   where
-    go : (k : ℕ) → eqb k 0 ≡ false → days ≡ ifWritten k (set days place new) days
+    go : (k : ℕ) → eqb k 0 ≡ false → days ≡ follow (outcome k (set days place new)) (λ _. days) (λ next. next)
     go zero e = absurd (let z : _≡_ {A = ℕ} 0 1 = cc in omega arith)
     go (suc k) e = refl
 
 module _ (days : List DayAnswer) (place : ℕ) (new : DayAnswer) {n : ℕ} (h : n ≡ rewriteNumber (length days) place new) (t : eqb n 0 ≡ true) where
   pub written : set days place new ≡ rewritten days place new
   unfolding rewritten
-  written = ap (λ (k : ℕ). ifWritten k (set days place new) days) (sym (eqb-true n 0 t) ∙ h)
+  written = ap (λ (k : ℕ). follow (outcome k (set days place new)) (λ _. days) (λ next. next)) (sym (eqb-true n 0 t) ∙ h)
 
   pub written-within : place < length days
   unfolding rewriteNumber

@@ -1,4 +1,5 @@
--- What the contracts of `mean` cite: the mean of days, the year's records, and the total that a mean is formed from.
+-- What the contracts of `mean` cite: the mean of days, and the year's records.
 pub mod Mean
 pub mod Records
+-- the code's own machinery
 pub mod Total

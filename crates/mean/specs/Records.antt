@@ -1,10 +1,10 @@
 -- Document 01, 'Means (6-5, 6-6)' and 'Refused calls': the year as a run of day records, of which one is read or rewritten.
 use mathlib.Core.List.{List, [], _∷_}
-use Prim.Native.Nat.{ℕ, zero, suc}
+use Prim.Native.Nat.{ℕ}
 use lib.Dec.{leb}
 use lib.ListN.{length, getD, set}
-use Rattle.quantity.specs.Answers.{Reading, level, reading, methodNumber, refusalNumber}
-use Rattle.quantity.specs.Rules.{Rule, firstOf}
+use Rattle.quantity.specs.Answers.{Reading, reading, methodNumber, refusalNumber}
+use Rattle.quantity.specs.Rules.{Rule, firstOf, Outcome, refused, given, outcome, follow}
 use Rattle.quantity.specs.declared.Reading.the-variants.{At}
 use Rattle.quantity.specs.declared.Method.the-variants.{One}
 use Rattle.quantity.specs.declared.DayAnswer.{DayAnswer}
@@ -30,25 +30,17 @@ abbrev pub dayReading : DayAnswer → DayReading
 dayReading day = record { level = reading (day .level); method = methodNumber (day .method) }
 
 -- what reading a record answers: the day's answer, or the number of a refusal
-pub data ReadResult : Type 0 where
-  found : DayReading → ReadResult
-  refused : ℕ → ReadResult
-
-abbrev pub readResult : ReadAnswer → ReadResult
-readResult (Record day) = found (dayReading day)
-readResult (Refused r) = refused (refusalNumber r)
+abbrev pub readOutcome : ReadAnswer → Outcome DayReading
+readOutcome (Record day) = given (dayReading day)
+readOutcome (Refused r) = refused (refusalNumber r)
 
 -- 13: the place, counted from 0, is not below the run's length
 abbrev pub placeRule : (count place : ℕ) → Rule
 placeRule count place = record { number = 13; refuses = leb count place }
 
-abbrev pub ifFound : ℕ → DayAnswer → ReadResult
-ifFound zero day = found (dayReading day)
-ifFound (suc n) day = refused (suc n)
-
 -- the record at a place
-unfoldable pub recordAt : List DayAnswer → ℕ → ReadResult
-recordAt days place = ifFound (firstOf (placeRule (length days) place ∷ [])) (getD days place blank)
+unfoldable pub recordAt : List DayAnswer → ℕ → Outcome DayReading
+recordAt days place = outcome (firstOf (placeRule (length days) place ∷ [])) (dayReading (getD days place blank))
 
 -- rewriting a record: 13 for the place, then 14 for the new level
 abbrev pub rewriteRules : (count place : ℕ) → DayAnswer → List Rule
@@ -59,9 +51,5 @@ unfoldable pub rewriteNumber : (count place : ℕ) → DayAnswer → ℕ
 rewriteNumber count place new = firstOf (rewriteRules count place new)
 
 -- the run with the new record at a place, or the run as it was where the call is refused
-abbrev pub ifWritten : ℕ → List DayAnswer → List DayAnswer → List DayAnswer
-ifWritten zero next days = next
-ifWritten (suc n) next days = days
-
 unfoldable pub rewritten : List DayAnswer → ℕ → DayAnswer → List DayAnswer
-rewritten days place new = ifWritten (rewriteNumber (length days) place new) (set days place new) days
+rewritten days place new = follow (outcome (rewriteNumber (length days) place new) (set days place new)) (λ _. days) (λ next. next)

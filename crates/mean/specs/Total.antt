@@ -1,33 +1,34 @@
+-- The code's own machinery, not the papers': a reader of the papers can leave it out.
 -- The total that a mean is formed from, day by day: a sum of powers for each of the decades up to 20000.
-use mathlib.Core.Bool.{Bool, true, false, cond}
+use mathlib.Core.Bool.{Bool, false, _||_, cond}
 use mathlib.Core.List.{List, [], _∷_}
 use Prim.Native.Nat.{ℕ}
 use lib.Dec.{ltb, eqb}
 use lib.ListN.{replicate}
 use Rattle.quantity.specs.Answers.{Reading, level, below-scale}
-use Rattle.quantity.specs.Rules.{firstOf}
+use Rattle.quantity.specs.Rules.{firstOf, Outcome, outcome, follow}
+use Rattle.quantity.specs.Limits.{highestDayLevel}
 use Rattle.level.specs.Level.{levelOf}
-use Rattle.decades.specs.Decades.{total, withPower}
-use Rattle.mean.specs.Mean.{highestDay, meanRules, MeanResult, ifAllowed}
-use Rattle.mean.specs.Records.{ReadResult, found, refused}
+use Rattle.decades.specs.Sums.{total, withPower}
+use Rattle.mean.specs.Mean.{isTooHigh, meanRules}
+use Rattle.mean.specs.Records.{DayReading}
 use Rattle.mean.specs.declared.Total.{Total}
 
 -- the total of no days
 abbrev pub noDays : Total
 noDays = record { sums = replicate 21 0; high = false }
 
--- the total with one day more; a level that is too high is noted and not added
+-- the sums, and the total, with one day more; a level that is too high is noted and not added
+abbrev pub sumsWith : List ℕ → Reading → List ℕ
+sumsWith s (level c) = cond (ltb highestDayLevel c) s (withPower s c)
+sumsWith s below-scale = s
+
 abbrev pub withDay : Total → Reading → Total
-withDay t (level c) =
-    cond (ltb highestDay c)
-    (record { sums = t .sums; high = true })
-    (record { sums = withPower (t .sums) c; high = t .high })
-withDay t below-scale = t
+withDay t day = record { sums = sumsWith (t .sums) day; high = t .high || isTooHigh day }
 
 -- the total with the day of a record that was read
-abbrev pub withRead : Total → ReadResult → Total
-withRead t (found day) = withDay t (day .level)
-withRead t (refused n) = t
+abbrev pub withRead : Total → Outcome DayReading → Total
+withRead t read = follow read (λ _. t) (λ day. withDay t (day .level))
 
 -- the total of the days
 unfoldable pub totalOf : Total → List Reading → Total
@@ -35,9 +36,9 @@ totalOf t [] = t
 totalOf t (day ∷ days) = totalOf (withDay t day) days
 
 -- the number of days that are added up: none where the number is wrong
-abbrev pub daysCounted : Bool → ℕ → ℕ
-daysCounted wrong count = cond wrong 0 count
+abbrev pub daysIfAllowed : Bool → ℕ → ℕ
+daysIfAllowed wrong count = cond wrong 0 count
 
 -- the mean of a total over the number of days that were added up
-unfoldable pub closedOf : Total → ℕ → MeanResult
-closedOf t days = ifAllowed (firstOf (meanRules (eqb days 0) (t .high))) (levelOf 0 days (total (t .sums)))
+unfoldable pub meanOfTotal : Total → ℕ → Outcome Reading
+meanOfTotal t days = outcome (firstOf (meanRules (eqb days 0) (t .high))) (levelOf 0 days (total (t .sums)))

@@ -1,22 +1,21 @@
 // The weekly and the yearly mean of days' levels (6-5, 6-6), and the year's records, which the caller lends as a run of day answers.
 ghost use mathlib.Core.Path.{_≡_};
+ghost use mathlib.Core.Bool.{_||_};
 ghost use Prim.Native.Nat.{_+_, _≤_, _<_};
 ghost use lib.Dec.{eqb};
 ghost use lib.ListN.{length};
 ghost use Rattle.quantity.specs.Answers.{reading, checkNumber};
+ghost use Rattle.quantity.specs.Limits.{highestDayLevel};
 ghost use Rattle.power.specs.Power.{IsTable};
-ghost use Rattle.decades.specs.Decades.{withPower, Readable};
-ghost use Rattle.mean.specs.Mean.{highestDay, isTooHigh, isCountWrong, meanResult, meanOf, weekMeanOf, yearMeanOf};
-ghost use Rattle.mean.specs.Records.{readings, readResult, recordAt, rewriteNumber, rewritten};
-ghost use Rattle.mean.specs.Total.{noDays, withDay, withRead, daysCounted, closedOf};
+ghost use Rattle.decades.specs.Sums.{withPower, Readable};
+ghost use Rattle.mean.specs.Mean.{isTooHigh, isCountWrong, meanOutcome, meanOf, weekMeanOf, yearMeanOf};
+ghost use Rattle.mean.specs.Records.{readings, readOutcome, recordAt, rewriteNumber, rewritten};
+ghost use Rattle.mean.specs.Total.{noDays, sumsWith, withDay, withRead, daysIfAllowed, meanOfTotal};
 use quantity::Check;
 use quantity::DayAnswer;
 use quantity::Level;
 use quantity::Reading;
 use quantity::Refusal;
-
-// No day's level is above it.
-const HIGHEST_DAY: u32 = 20000;
 
 // A mean, or why it is refused.
 pub enum MeanAnswer {
@@ -41,19 +40,9 @@ pub fn is_too_high(level: Reading) -> bool
     ensures { λ r. ⌜ r ≡ isTooHigh (reading level) ⌝ }
 {
     match level {
-        Reading::At(at) => HIGHEST_DAY < at.0,
+        Reading::At(at) => quantity::HIGHEST_DAY_LEVEL < at.0,
         Reading::BelowScale => false,
     }
-}
-
-// The sums with e of one level more.
-fn sums_with(table: &[u64; 1000], sums: [u64; 21], level: Level) -> [u64; 21]
-    requires { ⌜ IsTable (now table) × Readable sums × (level .0 ≤ highestDay) ⌝ }
-    ensures { λ r. ⌜ r ≡ withPower sums (level .0) ⌝ }
-{
-    let mut next = sums;
-    decades::add_level(table, &mut next, level);
-    next
 }
 
 // The total of no days.
@@ -66,43 +55,50 @@ pub fn no_days() -> Total
     }
 }
 
-// A total with one day's level more.
-pub fn with_day(table: &[u64; 1000], total: Total, level: Reading) -> Total
-    requires { ⌜ IsTable (now table) × Readable (total .sums) ⌝ }
-    ensures { λ r. ⌜ r ≡ withDay total (reading level) ⌝ }
+// Adds one day's level to lent sums, and says whether a level was too high, before or now. Such a level is not added.
+pub fn add_day(table: &[u64; 1000], sums: &mut [u64; 21], high: bool, level: Reading) -> bool
+    requires { ⌜ IsTable (now table) × Readable (now sums) ⌝ }
+    ensures { λ r. ⌜ (r ≡ (high || isTooHigh (reading level))) × (now (sums .exit) ≡ sumsWith (now (sums .entry)) (reading level)) ⌝ }
 {
-    let sums = total.sums;
     match level {
-        Reading::At(at) => if HIGHEST_DAY < at.0 {
-            Total { sums, high: true }
-        } else {
-            Total {
-                sums: sums_with(table, sums, at),
-                high: total.high,
+        Reading::At(at) => {
+            if quantity::HIGHEST_DAY_LEVEL < at.0 {
+                return true;
             }
-        },
-        Reading::BelowScale => total,
+            decades::add_level(table, sums, at);
+            high
+        }
+        Reading::BelowScale => high,
     }
 }
 
+// A total with one day's level more.
+fn with_day(table: &[u64; 1000], total: Total, level: Reading) -> Total
+    requires { ⌜ IsTable (now table) × Readable (total .sums) ⌝ }
+    ensures { λ r. ⌜ r ≡ withDay total (reading level) ⌝ }
+{
+    let mut sums = total.sums;
+    let high = add_day(table, &mut sums, total.high, level);
+    Total { sums, high }
+}
+
 // A total with the day of a record that was read.
-fn with_read(total: Total, read: ReadAnswer) -> Total
-    requires { ⌜ Readable (total .sums) ⌝ }
-    ensures { λ r. ⌜ r ≡ withRead total (readResult read) ⌝ }
+fn with_read(table: &[u64; 1000], total: Total, read: ReadAnswer) -> Total
+    requires { ⌜ IsTable (now table) × Readable (total .sums) ⌝ }
+    ensures { λ r. ⌜ r ≡ withRead total (readOutcome read) ⌝ }
 {
     match read {
         ReadAnswer::Record(day) => {
             let level = day.level;
-            let table = power::mantissas();
-            with_day(&table, total, level)
+            with_day(table, total, level)
         }
         ReadAnswer::Refused(_) => total,
     }
 }
 
-// The number of days that a mean adds up: none where it is not from the fewest to the most.
-pub fn days_counted(count: usize, fewest: usize, most: usize) -> usize
-    ensures { λ r. ⌜ r ≡ daysCounted (isCountWrong fewest most count) count ⌝ }
+// The number of days that a mean adds up, or 0 where the mean is refused because it is not from the fewest to the most.
+pub fn days_if_allowed(count: usize, fewest: usize, most: usize) -> usize
+    ensures { λ r. ⌜ r ≡ daysIfAllowed (isCountWrong fewest most count) count ⌝ }
 {
     if count < fewest {
         return 0;
@@ -114,9 +110,9 @@ pub fn days_counted(count: usize, fewest: usize, most: usize) -> usize
 }
 
 // The mean of a total over the number of days that were added up.
-pub fn closed(total: Total, days: usize) -> MeanAnswer
-    requires { ⌜ (days ≤ 366) × Readable (total .sums) ⌝ }
-    ensures { λ r. ⌜ meanResult r ≡ closedOf total days ⌝ }
+pub fn mean_of_total(table: &[u64; 1000], total: Total, days: usize) -> MeanAnswer
+    requires { ⌜ IsTable (now table) × (days ≤ 366) × Readable (total .sums) ⌝ }
+    ensures { λ r. ⌜ meanOutcome r ≡ meanOfTotal total days ⌝ }
 {
     let sums = total.sums;
     if days == 0 {
@@ -125,8 +121,7 @@ pub fn closed(total: Total, days: usize) -> MeanAnswer
     if total.high {
         return MeanAnswer::Refused(Refusal::RecordLevelTooHigh);
     }
-    let table = power::mantissas();
-    MeanAnswer::Mean(decades::level_over(&table, &sums, days as u32))
+    MeanAnswer::Mean(decades::level_over(table, &sums, days as u32))
 }
 
 // Refusals 13 and 14 of rewriting a record.
@@ -155,7 +150,7 @@ fn is_passed(check: Check) -> bool
 
 // The record at a place of the year.
 pub fn read_record(days: &[DayAnswer], place: usize) -> ReadAnswer
-    ensures { λ r. ⌜ readResult r ≡ recordAt (now (days .entry)) place ⌝ }
+    ensures { λ r. ⌜ readOutcome r ≡ recordAt (now (days .entry)) place ⌝ }
 {
     if days.len() <= place {
         return ReadAnswer::Refused(Refusal::DayCount);
@@ -180,29 +175,30 @@ pub fn rewrite_record(days: &mut [DayAnswer], place: usize, new: DayAnswer) -> C
 // The mean of all the days, where their number is from the fewest to the most.
 fn mean_over(days: &[DayAnswer], fewest: usize, most: usize) -> MeanAnswer
     requires { ⌜ (0 < fewest) × (most ≤ 366) ⌝ }
-    ensures { λ r. ⌜ meanResult r ≡ meanOf fewest most (readings (now (days .entry))) ⌝ }
+    ensures { λ r. ⌜ meanOutcome r ≡ meanOf fewest most (readings (now (days .entry))) ⌝ }
 {
-    let counted = days_counted(days.len(), fewest, most);
+    let counted = days_if_allowed(days.len(), fewest, most);
+    let table = power::mantissas();
     let mut total = no_days();
     let mut place: usize = 0;
     while place < counted {
         let read = read_record(days, place);
-        total = with_read(total, read);
+        total = with_read(&table, total, read);
         place = place + 1;
     }
-    closed(total, counted)
+    mean_of_total(&table, total, counted)
 }
 
 // The mean of a week, of exactly 7 days.
 pub fn week_mean(days: &[DayAnswer]) -> MeanAnswer
-    ensures { λ r. ⌜ meanResult r ≡ weekMeanOf (readings (now (days .entry))) ⌝ }
+    ensures { λ r. ⌜ meanOutcome r ≡ weekMeanOf (readings (now (days .entry))) ⌝ }
 {
     mean_over(days, 7, 7)
 }
 
 // The mean of a year, of 1 to 366 days.
 pub fn year_mean(days: &[DayAnswer]) -> MeanAnswer
-    ensures { λ r. ⌜ meanResult r ≡ yearMeanOf (readings (now (days .entry))) ⌝ }
+    ensures { λ r. ⌜ meanOutcome r ≡ yearMeanOf (readings (now (days .entry))) ⌝ }
 {
     mean_over(days, 1, 366)
 }

@@ -1,18 +1,7 @@
 -- Laws of powers that the library lacks.
 use mathlib.Core.Path.{_≡_}
 use Prim.Native.Nat.{ℕ, zero, suc, _*_, _^_, _<_}
-use native.Mathlib.Nat.{
-  mul-assoc,
-  mul-comm,
-  mul-left-comm,
-  mul-zero,
-  mul-suc,
-  pow-zero,
-  pow-suc,
-  pow-le-pow-left,
-  lt-of-not-le,
-  not-le-of-lt,
-}
+use native.Mathlib.Nat.{mul-assoc, mul-comm, mul-left-comm, mul-zero, mul-suc, pow-zero, pow-suc, pow-le-pow-left, lt-of-not-le, not-le-of-lt}
 use lib.Pow.{pow-add}
 
 pub mul-pow : (a b n : ℕ) → (a * b) ^ n ≡ a ^ n * b ^ n

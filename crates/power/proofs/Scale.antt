@@ -1,15 +1,7 @@
 -- How near e, which has ten digits, and X, which has K places, come to the power of ten that both stand for; and that e rises.
 use mathlib.Core.Path.{_≡_, sym}
 use Prim.Native.Nat.{ℕ, zero, suc, _+_, _*_, _/_, _%_, _^_, _≤_, _<_}
-use native.Mathlib.Nat.{
-  one-le-pow,
-  mul-le-mul-right,
-  pow-suc,
-  div-add-mod,
-  le-refl,
-  lt-of-not-le,
-  not-le-of-lt,
-}
+use native.Mathlib.Nat.{one-le-pow, mul-le-mul-right, pow-suc, div-add-mod, le-refl}
 use native.Mathlib.Decide.{le-ind, decLt}
 use native.Mathlib.Numerals.{add-one}
 use native.Mathlib.Omega.{arith}
@@ -62,9 +54,6 @@ e-below-next-X K c = cross (lit< tt) (next-cut c) (X-cut K (c + 1))
 
 pub e-mono : {c d : ℕ} → c ≤ d → e c ≤ e d
 e-mono {c} {d} h = le-ind (λ n. e c ≤ e n) (le-refl (e c)) (λ n l i. rw (← add-one n) (omega (arith, e-rises n))) d h
-
-pub lt-of-e : {c d : ℕ} → e c < e d → c < d
-lt-of-e h = lt-of-not-le (λ l. not-le-of-lt h (e-mono l))
 
 -- a level is less than its power
 pub below-e : (c : ℕ) → c < e c

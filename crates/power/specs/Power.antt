@@ -1,7 +1,7 @@
 -- Document 01, 'Powers': 10 ^ (c / 1000) at a level c, exact to K decimal places and by its first ten digits.
 use mathlib.Core.Path.{_≡_}
 use mathlib.Core.List.{List}
-use Prim.Native.Nat.{ℕ, _+_, _*_, _/_, _%_, _^_, _≤_, _<_}
+use Prim.Native.Nat.{ℕ, _+_, _*_, _/_, _%_, _^_, _<_}
 use lib.ListN.{getD}
 use Rattle.power.specs.Root.{root}
 
@@ -24,11 +24,3 @@ e c = m (c % 1000) * 10 ^ (c / 1000)
 -- the unit of e, e(0)
 abbrev pub G : ℕ
 G = 10 ^ 9
-
--- e(c) as a mantissa of ten digits and an exponent
-pub record PowerOf (c mantissa exponent : ℕ) : Type 0 where
-  pub digits : mantissa ≡ m (c % 1000)
-  pub tens : exponent ≡ c / 1000
-  pub whole : mantissa * 10 ^ exponent ≡ e c
-  pub low : G ≤ mantissa
-  pub high : mantissa < 10 * G

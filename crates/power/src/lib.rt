@@ -1,8 +1,7 @@
-// Powers of ten at levels: e(c), which is 10^(c / 1000) to ten digits, as a mantissa times a power of ten.
+// Powers of ten at levels: e(c), which is 10^(c / 1000) to ten digits, is a mantissa of this table times a power of ten.
 ghost use mathlib.Core.Path.{_≡_};
 ghost use Prim.Native.Nat.{_*_, _≤_, _<_};
-ghost use Rattle.power.specs.Power.{m, G, IsTable, PowerOf};
-use quantity::Level;
+ghost use Rattle.power.specs.Power.{m, G, IsTable};
 
 // m(f) for f from 0 to 999: the first ten digits of 10^(f / 1000).
 const MANTISSAS: [u64; 1000] = [
@@ -1008,12 +1007,6 @@ const MANTISSAS: [u64; 1000] = [
     9977000638,
 ];
 
-// A power as mantissa * 10^exponent, with a mantissa of ten digits.
-pub struct Power {
-    pub mantissa: u64,
-    pub exponent: u32,
-}
-
 // The table, to be made once and lent to each lookup.
 pub fn mantissas() -> [u64; 1000]
     ensures { λ r. ⌜ IsTable r ⌝ }
@@ -1028,16 +1021,4 @@ pub fn mantissa_in(table: &[u64; 1000], f: usize) -> u64
     ensures ten_digits { λ r. ⌜ (G ≤ r) × (r < 10 * G) ⌝ }
 {
     table[f]
-}
-
-// e(c) of any level.
-pub fn power_of(level: Level) -> Power
-    ensures { λ r. ⌜ PowerOf (level .0) (r .mantissa) (r .exponent) ⌝ }
-{
-    let c = level.0;
-    let table = mantissas();
-    Power {
-        mantissa: mantissa_in(&table, (c % 1000) as usize),
-        exponent: c / 1000,
-    }
 }

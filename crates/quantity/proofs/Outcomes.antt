@@ -19,6 +19,18 @@ pub given-value : {A : Type 0} (n : ℕ) {a b : A} → outcome n a ≡ given b �
 given-value zero e = (refl, cc)
 given-value (suc n) e = let z : _≡_ {A = ℕ} 0 1 = cc in absurd (omega arith)
 
+-- the rules that refuse one value refuse every other by the same number, and those that let one through let every other through
+pub refused-alike : {A B : Type 0} (n : ℕ) (a : A) (b : B) {k : ℕ} → outcome n a ≡ refused k → outcome n b ≡ refused k
+refused-alike zero a b e = let z : _≡_ {A = ℕ} 0 1 = cc in absurd (omega arith)
+refused-alike (suc n) a b e = ap refused (number-of e)
+  where
+    number-of : {k : ℕ} → outcome (suc n) a ≡ refused k → suc n ≡ k
+    number-of e = cc
+
+pub given-alike : {A B : Type 0} (n : ℕ) (a : A) (b : B) {c : A} → outcome n a ≡ given c → outcome n b ≡ given b
+given-alike zero a b e = refl
+given-alike (suc n) a b e = let z : _≡_ {A = ℕ} 0 1 = cc in absurd (omega arith)
+
 -- where what follows is given, what it follows was
 pub followed : {A B : Type 0} {f : A → Outcome B} {b : B} (o : Outcome A) → follow o refused f ≡ given b
     → (a : A) × (o ≡ given a) × (f a ≡ given b)

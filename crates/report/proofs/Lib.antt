@@ -1,3 +1,3 @@
 -- The laws that the proofs of `report` share.
 pub mod Decimal
-pub mod Fields
+pub mod Putting

@@ -5,9 +5,9 @@ use mathlib.Core.Option.{Option, some, none}
 use Prim.Native.Nat.{ℕ, zero, suc, _+_, _/_, _%_}
 use lib.Dec.{ltb}
 use Rattle.quantity.specs.Answers.{Reading, level, below-scale}
-use Rattle.ledger.specs.Offer.{OfferResult, accepted, refused}
-use Rattle.closing.specs.Close.{CloseResult, closed}
-use Rattle.closing.specs.Close as close
+use Rattle.quantity.specs.Rules.{Outcome, refused, given}
+use Rattle.ledger.specs.Offer.{Accepted}
+use Rattle.closing.specs.Close.{Closing}
 
 -- the digit of a number below ten
 abbrev pub digit : ℕ → ℕ
@@ -42,9 +42,12 @@ abbrev pub dash : List ℕ
 dash = 45 ∷ []
 
 -- fields of a line, each behind a space
+abbrev pub field : List ℕ → List ℕ
+field text = 32 ∷ text
+
 abbrev pub spaced : List (List ℕ) → List ℕ
 spaced [] = []
-spaced (x ∷ xs) = 32 ∷ (x ++ spaced xs)
+spaced (x ∷ xs) = field x ++ spaced xs
 
 -- a line: its letter, its fields and its end
 abbrev pub lineOf : List ℕ → List (List ℕ) → List ℕ
@@ -59,21 +62,30 @@ highestText (some c) = decimal c
 highestText none = dash
 
 -- `E i A LAE Lmax` or `E i R number`
-abbrev pub offerFields : OfferResult → List (List ℕ)
-offerFields (accepted exposure lmax) = letterA ∷ readingText exposure ∷ decimal lmax ∷ []
+abbrev pub offerFields : Outcome Accepted → List (List ℕ)
+offerFields (given a) = letterA ∷ readingText (a .exposure) ∷ decimal (a .lmax) ∷ []
 offerFields (refused n) = letterR ∷ decimal n ∷ []
 
-abbrev pub eventLine : ℕ → OfferResult → List ℕ
-eventLine i result = lineOf letterE (decimal i ∷ offerFields result)
+abbrev pub eventLine : ℕ → Outcome Accepted → List ℕ
+eventLine i answer = lineOf letterE (decimal i ∷ offerFields answer)
 
 -- `D A Ldn method Nd' Nn' Lmax` or `D R number`
-abbrev pub closeFields : CloseResult → List (List ℕ)
-closeFields (closed ldn method dayEvents nightEvents highest) =
-    letterA ∷ readingText ldn ∷ decimal method ∷ decimal dayEvents ∷ decimal nightEvents ∷ highestText highest ∷ []
-closeFields (close.refused n) = letterR ∷ decimal n ∷ []
+abbrev pub closingFields : Closing → List (List ℕ)
+closingFields c =
+    letterA
+    ∷ readingText (c .ldn)
+    ∷ decimal (c .method)
+    ∷ decimal (c .dayEvents)
+    ∷ decimal (c .nightEvents)
+    ∷ highestText (c .highest)
+    ∷ []
 
-abbrev pub dayLine : CloseResult → List ℕ
-dayLine result = lineOf letterD (closeFields result)
+abbrev pub closeFields : Outcome Closing → List (List ℕ)
+closeFields (given c) = closingFields c
+closeFields (refused n) = letterR ∷ decimal n ∷ []
+
+abbrev pub dayLine : Outcome Closing → List ℕ
+dayLine answer = lineOf letterD (closeFields answer)
 
 -- `F number`
 abbrev pub faultLine : ℕ → List ℕ

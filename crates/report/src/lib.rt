@@ -1,18 +1,20 @@
 // The lines of the day program, each made into a lent buffer.
-ghost use mathlib.Core.Path.{_≡_};
-ghost use mathlib.Core.List.{[], _∷_, _++_};
+ghost use mathlib.Core.List.{[], _∷_};
 ghost use Prim.Native.Nat.{_+_, _≤_};
-ghost use lib.ListN.{length, take, drop};
+ghost use lib.ListN.{length};
 ghost use Rattle.quantity.specs.Answers.{reading, highestReading, refusalNumber};
-ghost use Rattle.ledger.specs.Offer.{offerResult};
-ghost use Rattle.closing.specs.Close.{closeResult};
+ghost use Rattle.ledger.specs.Offer.{offerOutcome};
+ghost use Rattle.closing.specs.Close.{closingReading, closeOutcome};
 ghost use Rattle.io.specs.Counts.{Counts};
+ghost use Rattle.report.specs.Put.{Put};
 ghost use Rattle.report.specs.Text.{
   decimal,
+  field,
   spaced,
   readingText,
   highestText,
   offerFields,
+  closingFields,
   closeFields,
   letterR,
   eventLine,
@@ -27,11 +29,9 @@ use quantity::Reading;
 use quantity::Refusal;
 
 // Puts some bytes behind those that a line has, and gives their number with these. What lies further behind stays.
-pub fn put(line: &mut [u8], at: usize, bytes: &[u8]) -> usize
+fn put(line: &mut [u8], at: usize, bytes: &[u8]) -> usize
     requires { ⌜ at + length (now bytes) ≤ length (now line) ⌝ }
-    ensures { λ r. ⌜ take r (now (line .exit)) ≡ take at (now (line .entry)) ++ now (bytes .entry) ⌝ }
-    ensures size { λ r. ⌜ r ≡ at + length (now (bytes .entry)) ⌝ }
-    ensures rest { λ r. ⌜ drop r (now (line .exit)) ≡ drop r (now (line .entry)) ⌝ }
+    ensures { λ r. ⌜ Put (now (line .entry)) at (now (bytes .entry)) (now (line .exit)) r ⌝ }
 {
     let mut i = 0;
     while i < bytes.len() {
@@ -44,7 +44,7 @@ pub fn put(line: &mut [u8], at: usize, bytes: &[u8]) -> usize
 // Puts a field of one byte.
 fn put_letter(line: &mut [u8; 64], at: usize, letter: u8) -> usize
     requires { ⌜ at + 2 ≤ 64 ⌝ }
-    ensures { λ r. ⌜ take r (now (line .exit)) ≡ take at (now (line .entry)) ++ spaced ((letter ∷ []) ∷ []) ⌝ }
+    ensures { λ r. ⌜ Put (now (line .entry)) at (field (letter ∷ [])) (now (line .exit)) r ⌝ }
     ensures size { λ r. ⌜ r ≤ at + 2 ⌝ }
 {
     let bytes = [b' ', letter];
@@ -54,7 +54,7 @@ fn put_letter(line: &mut [u8; 64], at: usize, letter: u8) -> usize
 // Puts a number of at most ten digits.
 fn put_number(line: &mut [u8; 64], at: usize, n: u32) -> usize
     requires { ⌜ at + 11 ≤ 64 ⌝ }
-    ensures { λ r. ⌜ take r (now (line .exit)) ≡ take at (now (line .entry)) ++ spaced (decimal n ∷ []) ⌝ }
+    ensures { λ r. ⌜ Put (now (line .entry)) at (field (decimal n)) (now (line .exit)) r ⌝ }
     ensures size { λ r. ⌜ r ≤ at + 11 ⌝ }
 {
     let mut digits = [0u8; 20];
@@ -66,7 +66,7 @@ fn put_number(line: &mut [u8; 64], at: usize, n: u32) -> usize
 // Puts a level, or '-' for below scale.
 fn put_level(line: &mut [u8; 64], at: usize, answer: Reading) -> usize
     requires { ⌜ at + 11 ≤ 64 ⌝ }
-    ensures { λ r. ⌜ take r (now (line .exit)) ≡ take at (now (line .entry)) ++ spaced (readingText (reading answer) ∷ []) ⌝ }
+    ensures { λ r. ⌜ Put (now (line .entry)) at (field (readingText (reading answer))) (now (line .exit)) r ⌝ }
     ensures size { λ r. ⌜ r ≤ at + 11 ⌝ }
 {
     match answer {
@@ -78,7 +78,7 @@ fn put_level(line: &mut [u8; 64], at: usize, answer: Reading) -> usize
 // Puts the highest level, or '-' where there is none.
 fn put_highest(line: &mut [u8; 64], at: usize, highest: HighestLevel) -> usize
     requires { ⌜ at + 11 ≤ 64 ⌝ }
-    ensures { λ r. ⌜ take r (now (line .exit)) ≡ take at (now (line .entry)) ++ spaced (highestText (highestReading highest) ∷ []) ⌝ }
+    ensures { λ r. ⌜ Put (now (line .entry)) at (field (highestText (highestReading highest))) (now (line .exit)) r ⌝ }
     ensures size { λ r. ⌜ r ≤ at + 11 ⌝ }
 {
     match highest {
@@ -90,7 +90,7 @@ fn put_highest(line: &mut [u8; 64], at: usize, highest: HighestLevel) -> usize
 // Puts the letter R and the number of a refusal.
 fn put_refusal(line: &mut [u8; 64], at: usize, refusal: Refusal) -> usize
     requires { ⌜ at + 13 ≤ 64 ⌝ }
-    ensures { λ r. ⌜ take r (now (line .exit)) ≡ take at (now (line .entry)) ++ spaced (letterR ∷ decimal (refusalNumber refusal) ∷ []) ⌝ }
+    ensures { λ r. ⌜ Put (now (line .entry)) at (spaced (letterR ∷ decimal (refusalNumber refusal) ∷ [])) (now (line .exit)) r ⌝ }
     ensures size { λ r. ⌜ r ≤ at + 13 ⌝ }
 {
     let letter = put_letter(line, at, b'R');
@@ -100,7 +100,7 @@ fn put_refusal(line: &mut [u8; 64], at: usize, refusal: Refusal) -> usize
 // Puts the letter A, LAE and Lmax, or the refusal.
 fn put_offer(line: &mut [u8; 64], at: usize, answer: OfferAnswer) -> usize
     requires { ⌜ at + 24 ≤ 64 ⌝ }
-    ensures { λ r. ⌜ take r (now (line .exit)) ≡ take at (now (line .entry)) ++ spaced (offerFields (offerResult answer)) ⌝ }
+    ensures { λ r. ⌜ Put (now (line .entry)) at (spaced (offerFields (offerOutcome answer))) (now (line .exit)) r ⌝ }
     ensures size { λ r. ⌜ r ≤ at + 24 ⌝ }
 {
     match answer {
@@ -116,7 +116,7 @@ fn put_offer(line: &mut [u8; 64], at: usize, answer: OfferAnswer) -> usize
 // Puts the letter A, Ldn, the method, Nd', Nn' and the highest Lmax.
 fn put_closing(line: &mut [u8; 64], at: usize, closing: Closing) -> usize
     requires { ⌜ at + 57 ≤ 64 ⌝ }
-    ensures { λ r. ⌜ take r (now (line .exit)) ≡ take at (now (line .entry)) ++ spaced (closeFields (closeResult (CloseAnswer.Closed closing))) ⌝ }
+    ensures { λ r. ⌜ Put (now (line .entry)) at (spaced (closingFields (closingReading closing))) (now (line .exit)) r ⌝ }
     ensures size { λ r. ⌜ r ≤ at + 57 ⌝ }
 {
     let answer = closing.answer;
@@ -134,7 +134,7 @@ fn put_closing(line: &mut [u8; 64], at: usize, closing: Closing) -> usize
 // Puts what a closing answers, or the refusal.
 fn put_close(line: &mut [u8; 64], at: usize, answer: CloseAnswer) -> usize
     requires { ⌜ at + 57 ≤ 64 ⌝ }
-    ensures { λ r. ⌜ take r (now (line .exit)) ≡ take at (now (line .entry)) ++ spaced (closeFields (closeResult answer)) ⌝ }
+    ensures { λ r. ⌜ Put (now (line .entry)) at (spaced (closeFields (closeOutcome answer))) (now (line .exit)) r ⌝ }
     ensures size { λ r. ⌜ r ≤ at + 57 ⌝ }
 {
     match answer {
@@ -146,8 +146,7 @@ fn put_close(line: &mut [u8; 64], at: usize, answer: CloseAnswer) -> usize
 // The line of an event: its number, then LAE and Lmax or the refusal.
 pub fn event_line(line: &mut [u8; 64], i: u32, answer: OfferAnswer) -> usize
     ensures { λ r. ⌜ Counts r (now (line .exit)) ⌝ }
-    ensures { λ r. ⌜ take r (now (line .exit)) ≡ eventLine i (offerResult answer) ⌝ }
-    ensures size { λ r. ⌜ r ≤ 64 ⌝ }
+    ensures { λ r. ⌜ Put (now (line .entry)) 0 (eventLine i (offerOutcome answer)) (now (line .exit)) r ⌝ }
 {
     let letter = put(line, 0, b"E");
     let number = put_number(line, letter, i);
@@ -158,8 +157,7 @@ pub fn event_line(line: &mut [u8; 64], i: u32, answer: OfferAnswer) -> usize
 // The line of a day: Ldn, the method, Nd', Nn' and the highest Lmax, or the refusal.
 pub fn day_line(line: &mut [u8; 64], answer: CloseAnswer) -> usize
     ensures { λ r. ⌜ Counts r (now (line .exit)) ⌝ }
-    ensures { λ r. ⌜ take r (now (line .exit)) ≡ dayLine (closeResult answer) ⌝ }
-    ensures size { λ r. ⌜ r ≤ 64 ⌝ }
+    ensures { λ r. ⌜ Put (now (line .entry)) 0 (dayLine (closeOutcome answer)) (now (line .exit)) r ⌝ }
 {
     let letter = put(line, 0, b"D");
     let fields = put_close(line, letter, answer);
@@ -169,8 +167,7 @@ pub fn day_line(line: &mut [u8; 64], answer: CloseAnswer) -> usize
 // The line of a fault.
 pub fn fault_line(line: &mut [u8; 64], refusal: Refusal) -> usize
     ensures { λ r. ⌜ Counts r (now (line .exit)) ⌝ }
-    ensures { λ r. ⌜ take r (now (line .exit)) ≡ faultLine (refusalNumber refusal) ⌝ }
-    ensures size { λ r. ⌜ r ≤ 64 ⌝ }
+    ensures { λ r. ⌜ Put (now (line .entry)) 0 (faultLine (refusalNumber refusal)) (now (line .exit)) r ⌝ }
 {
     let letter = put(line, 0, b"F");
     let number = put_number(line, letter, quantity::refusal_number(refusal) as u32);

@@ -1,3 +1,2 @@
--- Laws that the proofs of `script` share.
-pub mod Loan
-pub mod Lending
+-- Laws that the proofs of `script` cite.
+pub mod Judging

@@ -1,17 +1,5 @@
 // The text of an answer: words, each behind a space.
 use crate::words;
-use closing::CloseAnswer;
-use land::Assessment;
-use land::Finding;
-use land::LandClassAnswer;
-use land::Margin;
-use land::VerdictAnswer;
-use ledger::OfferAnswer;
-use mean::MeanAnswer;
-use mean::ReadAnswer;
-use quantity::Check;
-use quantity::Reading;
-use quantity::Refusal;
 
 // Some text: the bytes up to the count.
 pub struct Text {
@@ -52,101 +40,44 @@ pub fn with_bytes(text: Text, bytes: &[u8]) -> Text {
     now
 }
 
-// The text with a word of one byte more.
-fn with_letter(text: Text, letter: u8) -> Text {
-    with_byte(with_byte(text, b' '), letter)
-}
-
 fn with_digits(text: Text, n: u64) -> Text {
     let mut digits = [0u8; 20];
     let count = io::decimal(n, &mut digits);
     with_bytes(text, &digits[..count])
 }
 
-fn with_number(text: Text, n: u64) -> Text {
+pub fn with_number(text: Text, n: u64) -> Text {
     with_digits(with_byte(text, b' '), n)
 }
 
-fn with_refusal(text: Text, refusal: Refusal) -> Text {
-    with_number(
-        with_letter(text, b'R'),
-        quantity::refusal_number(refusal) as u64,
-    )
+pub fn with_count(text: Text, n: u32) -> Text {
+    with_number(text, n as u64)
 }
 
-fn with_level(text: Text, level: Reading) -> Text {
-    match level {
-        Reading::At(at) => with_number(text, at.0 as u64),
-        Reading::BelowScale => with_letter(text, b'-'),
+// A level, or '-' for none.
+pub fn with_level(text: Text, level: u32) -> Text {
+    if level == words::NONE {
+        return with_bytes(text, b" -");
     }
+    with_count(text, level)
 }
 
-// A line of the day program from a place on, without its end.
-fn of_line(line: &[u8], from: usize) -> Text {
-    let end = words::place_of(line, from, b'\n');
-    with_bytes(nothing(), words::part(line, from, end))
-}
-
-// 'A LAE Lmax' or 'R number', as in the day program's line behind 'E 1'.
-pub fn of_offer(answer: OfferAnswer) -> Text {
-    let mut line = [0u8; 64];
-    let count = report::event_line(&mut line, 1, answer);
-    of_line(&line[..count], 3)
-}
-
-// 'A Ldn method Nd' Nn' Lmax' or 'R number', as in the day program's line behind 'D'.
-pub fn of_close(answer: CloseAnswer) -> Text {
-    let mut line = [0u8; 64];
-    let count = report::day_line(&mut line, answer);
-    of_line(&line[..count], 1)
-}
-
-// 'A' or 'R number'.
-pub fn of_check(answer: Check) -> Text {
-    match answer {
-        Check::Passed => with_letter(nothing(), b'A'),
-        Check::Refused(refusal) => with_refusal(nothing(), refusal),
+// 'A', or 'R' and the number of the refusal.
+pub fn with_answer(text: Text, answer: u8) -> Text {
+    if answer == 0 {
+        return with_bytes(text, b" A");
     }
+    with_number(with_bytes(text, b" R"), answer as u64)
 }
 
-// 'A level' or 'R number'.
-pub fn of_mean(answer: MeanAnswer) -> Text {
-    match answer {
-        MeanAnswer::Mean(level) => with_level(with_letter(nothing(), b'A'), level),
-        MeanAnswer::Refused(refusal) => with_refusal(nothing(), refusal),
-    }
-}
-
-// 'A' or 'R number' for the rewriting, then the level of the record that is read afterwards, or 'R number'.
-pub fn of_rewriting(answer: Check, read: ReadAnswer) -> Text {
-    let text = of_check(answer);
-    match read {
-        ReadAnswer::Record(day) => {
-            let level = day.level;
-            with_level(text, level)
-        }
-        ReadAnswer::Refused(refusal) => with_refusal(text, refusal),
-    }
-}
-
-// 'A class' or 'R number'.
-pub fn of_land(answer: LandClassAnswer) -> Text {
-    match answer {
-        LandClassAnswer::Known(class) => with_number(
-            with_letter(nothing(), b'A'),
-            land::class_number(class) as u64,
-        ),
-        LandClassAnswer::Refused(refusal) => with_refusal(nothing(), refusal),
-    }
-}
-
-fn with_finding(text: Text, finding: Finding) -> Text {
+// What a verdict names.
+pub fn with_finding(text: Text, finding: u8) -> Text {
     match finding {
-        Finding::Within => with_bytes(text, b" within"),
-        Finding::OverLevel => with_bytes(text, b" over level"),
-        Finding::OverMaximum => with_bytes(text, b" over maximum"),
-        Finding::Both => with_bytes(text, b" both"),
-        Finding::NoLimit => with_bytes(text, b" no limit"),
+        0 => with_bytes(text, b" within"),
+        1 => with_bytes(text, b" over level"),
+        2 => with_bytes(text, b" over maximum"),
+        3 => with_bytes(text, b" both"),
+        _ => with_bytes(text, b" no limit"),
     }
 }
 
@@ -155,28 +86,13 @@ fn size(n: i32) -> u64 {
     if n < 0 { (-1 - n) as u64 + 1 } else { n as u64 }
 }
 
-fn with_margin(text: Text, margin: Margin) -> Text {
-    match margin {
-        Margin::Nothing => with_bytes(text, b" none"),
-        Margin::Of(m) => {
-            if m < 0 {
-                return with_digits(with_letter(text, b'-'), size(m));
-            }
-            with_number(text, size(m))
-        }
+// A margin; the largest number stands for none.
+pub fn with_margin(text: Text, margin: i32) -> Text {
+    if margin == 2147483647 {
+        return with_bytes(text, b" none");
     }
-}
-
-fn of_assessment(assessment: Assessment) -> Text {
-    let finding = assessment.finding;
-    let margin = assessment.margin;
-    with_margin(with_finding(with_letter(nothing(), b'A'), finding), margin)
-}
-
-// 'A finding margin' or 'R number'.
-pub fn of_verdict(answer: VerdictAnswer) -> Text {
-    match answer {
-        VerdictAnswer::Given(assessment) => of_assessment(assessment),
-        VerdictAnswer::Refused(refusal) => with_refusal(nothing(), refusal),
+    if margin < 0 {
+        return with_digits(with_bytes(text, b" -"), size(margin));
     }
+    with_number(text, size(margin))
 }

@@ -1,197 +1,180 @@
-// The calls of a script: each takes its arguments from the numbers of a line.
+// The calls of a script, made through the functions that C calls: each takes its arguments from the numbers of a line.
 use crate::answers;
 use crate::answers::Text;
-use crate::lent;
 use crate::words;
 use crate::words::Words;
-use ledger::Day;
-use ledger::Recording;
-use quantity::DayAnswer;
-use quantity::HighestLevel;
-use quantity::Level;
-use quantity::Method;
-use quantity::Reading;
-use quantity::Time;
 
-// A call has at most this many numbers.
+// A call has at most this many numbers, and at most this many records.
 const MOST_NUMBERS: usize = 6016;
 
-// The day after a call, and the text of its answer.
-pub struct Made {
-    pub day: Day,
-    pub came: Text,
+const MOST_RECORDS: usize = 400;
+
+// Where the method of a record begins.
+const UPPER: u64 = 4294967296;
+
+// 'A', or 'R' and the number of the refusal.
+fn answered(answer: u8) -> Text {
+    answers::with_answer(answers::nothing(), answer)
 }
 
-fn level_of(number: u32) -> Reading {
-    if number == words::NONE {
-        return Reading::BelowScale;
+// The same, and then a level where there is no refusal.
+fn with_value(text: Text, answer: u8, level: u32) -> Text {
+    if answer == 0 {
+        return answers::with_level(text, level);
     }
-    Reading::At(Level(number))
+    text
 }
 
-fn highest_of(number: u32) -> HighestLevel {
-    if number == words::NONE {
-        return HighestLevel::Nothing;
-    }
-    HighestLevel::At(Level(number))
-}
-
-fn day_of(numbers: &[u32], at: usize) -> DayAnswer {
-    DayAnswer {
-        level: level_of(words::number_at(numbers, at)),
-        method: Method::One,
-    }
-}
-
-// book DAY FLIGHTS / NIGHT FLIGHTS
-fn open(numbers: &[u32], words: Words) -> Made {
+// book DAY FLIGHTS / NIGHT FLIGHTS: opened in words that are 0, so that a refused opening leaves a day of no class
+fn open(day: &mut [u32; 320], numbers: &[u32], words: Words) -> Text {
     let mut flights = [0u16; MOST_NUMBERS];
     words::copy_numbers(numbers, &mut flights);
-    let opened = ledger::open_day(
+    *day = [0u32; 320];
+    answered(c_interface::moatburdock_open_day(
+        day,
         words::numbers_part(&flights, 0, words.slash),
         words::numbers_part(&flights, words.slash, words.count),
-    );
-    let day = opened.day;
-    let answer = opened.answer;
-    Made {
-        day,
-        came: answers::of_check(answer),
-    }
-}
-
-// The recording that the first five numbers describe.
-fn recording_of(numbers: &[u32]) -> Recording {
-    Recording {
-        start: Time(words::number_at(numbers, 0)),
-        class: words::in_8_bits(words::number_at(numbers, 1)),
-        wind: words::in_16_bits(words::number_at(numbers, 2)),
-        wet: words::number_at(numbers, 3) != 0,
-        background: Level(words::number_at(numbers, 4)),
-    }
-}
-
-// offer START CLASS WIND WET BACKGROUND / SAMPLES
-fn offer(day: Day, numbers: &[u32], words: Words) -> Made {
-    let mut samples = [0u16; MOST_NUMBERS];
-    words::copy_numbers(numbers, &mut samples);
-    let offered = ledger::offer(
-        day,
-        recording_of(numbers),
-        words::numbers_part(&samples, words.slash, words.count),
-    );
-    let after = offered.day;
-    let answer = offered.answer;
-    Made {
-        day: after,
-        came: answers::of_offer(answer),
-    }
-}
-
-// close BEFORE AFTER
-fn close(day: Day, numbers: &[u32]) -> Text {
-    answers::of_close(closing::close_day(
-        day,
-        Level(words::number_at(numbers, 0)),
-        Level(words::number_at(numbers, 1)),
     ))
 }
 
-fn seven_days(numbers: &[u32], from: usize) -> [DayAnswer; 7] {
-    let mut days = [day_of(numbers, from); 7];
-    let mut i = 0;
-    while i < 7 {
-        days[i] = day_of(numbers, std::num::wrapping_add_usize(from, i));
-        i += 1;
-    }
-    days
-}
-
-fn year_of_days(numbers: &[u32]) -> [DayAnswer; 366] {
-    let mut days = [day_of(numbers, 0); 366];
-    let mut i = 0;
-    while i < 366 {
-        days[i] = day_of(numbers, i);
-        i += 1;
-    }
-    days
-}
-
-// week LEVELS: six, seven or eight of them; of six and of eight the first stands for all
-fn week(numbers: &[u32], count: usize) -> Text {
-    match count {
-        6 => answers::of_mean(lent::week_of_6([day_of(numbers, 0); 6])),
-        7 => answers::of_mean(lent::week_of_7(seven_days(numbers, 0))),
-        8 => answers::of_mean(lent::week_of_8([day_of(numbers, 0); 8])),
-        _ => answers::nothing(),
-    }
-}
-
-// year LEVELS: none, one, 366 or 367 of them; of 367 the first stands for all
-fn year(numbers: &[u32], count: usize) -> Text {
-    match count {
-        0 => answers::of_mean(lent::year_of_0([day_of(numbers, 0); 0])),
-        1 => answers::of_mean(lent::year_of_1([day_of(numbers, 0); 1])),
-        366 => answers::of_mean(lent::year_of_366(year_of_days(numbers))),
-        367 => answers::of_mean(lent::year_of_367([day_of(numbers, 0); 367])),
-        _ => answers::nothing(),
-    }
-}
-
-// rewrite PLACE LEVEL READ / SEVEN LEVELS: the record at PLACE gets LEVEL, then the one at READ is read
-fn rewrite(numbers: &[u32]) -> Text {
-    let back = lent::rewrite_and_read(
-        seven_days(numbers, 3),
-        words::number_at(numbers, 0) as usize,
-        day_of(numbers, 1),
-        words::number_at(numbers, 2) as usize,
+// offer START CLASS WIND WET BACKGROUND / SAMPLES
+fn offer(day: &mut [u32; 320], numbers: &[u32], words: Words) -> Text {
+    let mut samples = [0u16; MOST_NUMBERS];
+    words::copy_numbers(numbers, &mut samples);
+    let mut exposure = 0;
+    let mut lmax = 0;
+    let answer = c_interface::moatburdock_offer(
+        day,
+        words::number_at(numbers, 0),
+        words::in_8_bits(words::number_at(numbers, 1)),
+        words::in_16_bits(words::number_at(numbers, 2)),
+        words::number_at(numbers, 3) != 0,
+        words::number_at(numbers, 4),
+        words::numbers_part(&samples, words.slash, words.count),
+        &mut exposure,
+        &mut lmax,
     );
-    let answer = back.answer;
-    let read = back.read;
-    answers::of_rewriting(answer, read)
+    with_value(with_value(answered(answer), answer, exposure), answer, lmax)
+}
+
+// close BEFORE AFTER
+fn close(day: &[u32; 320], numbers: &[u32]) -> Text {
+    let mut day_record = 0;
+    let mut counts = [0u32; 3];
+    let answer = c_interface::moatburdock_close_day(
+        day,
+        words::number_at(numbers, 0),
+        words::number_at(numbers, 1),
+        &mut day_record,
+        &mut counts,
+    );
+    if answer != 0 {
+        return answered(answer);
+    }
+    let ldn = answers::with_level(answered(answer), (day_record % UPPER) as u32);
+    let method = answers::with_number(ldn, day_record / UPPER);
+    let by_day = answers::with_count(method, counts[0]);
+    let by_night = answers::with_count(by_day, counts[1]);
+    answers::with_level(by_night, counts[2])
+}
+
+// The record of a day with a level, by method one.
+fn record_of(level: u32) -> u64 {
+    UPPER + level as u64
+}
+
+// Puts the records of days, whose levels are the numbers from a place on.
+fn put_records(numbers: &[u32], from: usize, records: &mut [u64]) {
+    let mut i = 0;
+    while i < records.len() {
+        records[i] = record_of(words::number_at(numbers, std::num::wrapping_add_usize(from, i)));
+        i += 1;
+    }
+}
+
+// week LEVELS
+fn week(numbers: &[u32], count: usize) -> Text {
+    let mut records = [0u64; MOST_RECORDS];
+    put_records(numbers, 0, &mut records);
+    let mut level = 0;
+    let answer = c_interface::moatburdock_week_mean(
+        words::records_part(&records, 0, count),
+        &mut level,
+    );
+    with_value(answered(answer), answer, level)
+}
+
+// year LEVELS
+fn year(numbers: &[u32], count: usize) -> Text {
+    let mut records = [0u64; MOST_RECORDS];
+    put_records(numbers, 0, &mut records);
+    let mut level = 0;
+    let answer = c_interface::moatburdock_year_mean(
+        words::records_part(&records, 0, count),
+        &mut level,
+    );
+    with_value(answered(answer), answer, level)
+}
+
+// rewrite PLACE LEVEL READ / SEVEN LEVELS: the record at PLACE gets LEVEL, then the level of the one at READ is read
+fn rewrite(numbers: &[u32]) -> Text {
+    let mut records = [0u64; 7];
+    put_records(numbers, 3, &mut records);
+    let place = words::number_at(numbers, 0) as usize;
+    let new = record_of(words::number_at(numbers, 1));
+    let answer = c_interface::moatburdock_rewrite_record(&mut records, place, new);
+    let mut found = 0;
+    let at = words::number_at(numbers, 2) as usize;
+    let read = c_interface::moatburdock_read_record(&records, at, &mut found);
+    if read != 0 {
+        return answers::with_answer(answered(answer), read);
+    }
+    answers::with_level(answered(answer), (found % UPPER) as u32)
 }
 
 // verdict CLASS LEVEL SENSITIVE LMAX
 fn verdict(numbers: &[u32]) -> Text {
-    answers::of_verdict(land::verdict(
+    let mut finding = 0;
+    let mut margin = 0;
+    let answer = c_interface::moatburdock_verdict(
         words::in_8_bits(words::number_at(numbers, 0)),
-        level_of(words::number_at(numbers, 1)),
+        words::number_at(numbers, 1),
         words::number_at(numbers, 2) != 0,
-        highest_of(words::number_at(numbers, 3)),
-    ))
+        words::number_at(numbers, 3),
+        &mut finding,
+        &mut margin,
+    );
+    if answer != 0 {
+        return answered(answer);
+    }
+    answers::with_margin(answers::with_finding(answered(answer), finding), margin)
 }
 
 // land LETTER DIGIT, as ASCII codes
 fn land_class(numbers: &[u32]) -> Text {
-    answers::of_land(land::land_class(
+    let mut class = 0;
+    let answer = c_interface::moatburdock_land_class(
         words::in_8_bits(words::number_at(numbers, 0)),
         words::in_8_bits(words::number_at(numbers, 1)),
-    ))
-}
-
-// The answers of the calls that leave the day as it is.
-fn answer(day: Day, letter: u8, numbers: &[u32], words: Words) -> Text {
-    match letter {
-        b'c' => close(day, numbers),
-        b'w' => week(numbers, words.count),
-        b'y' => year(numbers, words.count),
-        b'r' => rewrite(numbers),
-        b'v' => verdict(numbers),
-        b'l' => land_class(numbers),
-        _ => answers::nothing(),
-    }
+        &mut class,
+    );
+    with_value(answered(answer), answer, class as u32)
 }
 
 // Makes a call, told by its first letter.
-pub fn make(day: Day, call: &[u8]) -> Made {
+pub fn make(day: &mut [u32; 320], call: &[u8]) -> Text {
     let mut numbers = [0u32; MOST_NUMBERS];
     let words = words::read_words(call, &mut numbers);
     let letter = words::byte_at(call, 0);
     match letter {
-        b'b' => open(&numbers, words),
+        b'b' => open(day, &numbers, words),
         b'o' => offer(day, &numbers, words),
-        _ => Made {
-            day,
-            came: answer(day, letter, &numbers, words),
-        },
+        b'c' => close(day, &numbers),
+        b'w' => week(&numbers, words.count),
+        b'y' => year(&numbers, words.count),
+        b'r' => rewrite(&numbers),
+        b'v' => verdict(&numbers),
+        b'l' => land_class(&numbers),
+        _ => answers::nothing(),
     }
 }

@@ -1,21 +1,20 @@
 // A script of calls, read from standard input: each line names a call of an entry point and the answer that should come. Every call is made, and
-// what came is held against what should come.
+// what came is compared with what should come.
 //
-//     LABEL: CALL WORDS = ANSWER          a call; answers that are right are parted by '|', and one that is plausible and wrong stands behind ', not'
+//     LABEL: CALL WORDS = ANSWER          a call; answers that are right are separated by '|', and one that is plausible and wrong stands behind ', not'
 //     TEXT                                a line without ':' is a heading
 //
 // The calls are told by their first letter: book, offer, close, week, year, rewrite, verdict, land.
 ghost use mathlib.Core.Path.{_≡_};
+ghost use mathlib.Core.Bool.{cond};
 ghost use Prim.Native.Nat.{_≤_};
 ghost use lib.ListN.{length};
+ghost use Rattle.script.specs.Judging.{isOneOf, isRight, counted};
 
 mod answers;
 mod calls;
-mod lent;
 mod words;
 
-use crate::answers::Text;
-use ledger::Day;
 use libc::STDOUT_FILENO;
 
 // A line is shorter than this: 6016 numbers of five digits and their spaces are 36096 bytes.
@@ -24,11 +23,10 @@ const LONGEST_LINE: usize = 40960;
 // No script has more lines.
 const MOST_LINES: u32 = 1000000;
 
-// The day that the calls so far left, the number of calls, and the number of those whose answer was not right.
-struct Progress {
-    day: Day,
-    calls: u32,
-    different: u32,
+// The number of calls, and the number of those whose answer was not right.
+pub struct Progress {
+    pub calls: u32,
+    pub different: u32,
 }
 
 // A line in the buffer: from a place up to another, and where the bytes that are held end.
@@ -52,58 +50,80 @@ fn show(label: &[u8], came: &[u8], should: &[u8]) {
     text(b"\n");
 }
 
-// Whether what came is one of the answers that should come: they are parted by '|' and end before ','.
-fn is_right(came: &[u8], should: &[u8]) -> bool {
-    let end = words::place_of(should, 0, b',');
-    let answers = words::part(should, 0, end);
+// Whether what came is one of the answers, which are separated by '|'.
+fn is_one_of(came: &[u8], answers: &[u8]) -> bool
+    ensures { λ r. ⌜ r ≡ isOneOf (now (came .entry)) (now (answers .entry)) ⌝ }
+{
     let mut from = 0;
-    while from < end {
+    loop {
         let to = words::place_of(answers, from, b'|');
-        if check::same(came, words::part(answers, from, to)) {
+        if check::same(came, &answers[from..to]) {
             return true;
         }
-        from = words::behind(to, end);
-    }
-    false
-}
-
-// The number of answers that are not right: 0 or 1. Writes the call of the line where it is 1, or where every call is shown.
-fn judge(came: Text, line: &[u8], colon: usize, equals: usize, shows_all: bool) -> u32 {
-    let bytes = came.bytes;
-    let answer = words::part(&bytes, 0, came.count);
-    let should = words::part(line, words::behind(equals, line.len()), line.len());
-    let label = words::part(line, 0, colon);
-    if is_right(answer, should) {
-        if shows_all {
-            show(label, answer, should);
+        if to == answers.len() {
+            return false;
         }
-        return 0;
+        from = to + 1;
     }
-    show(label, answer, should);
-    1
 }
 
-// Makes the call of a line whose label ends at a place.
-fn run_call(progress: Progress, line: &[u8], colon: usize, shows_all: bool) -> Progress {
-    let day = progress.day;
+// Whether what came is right; behind ',' no answers stand.
+fn is_right(came: &[u8], should: &[u8]) -> bool
+    ensures { λ r. ⌜ r ≡ isRight (now (came .entry)) (now (should .entry)) ⌝ }
+{
+    let end = words::place_of(should, 0, b',');
+    is_one_of(came, &should[0..end])
+}
+
+fn differences(right: bool) -> u32
+    ensures { λ r. ⌜ r ≡ cond right 0 1 ⌝ }
+{
+    if right { 0 } else { 1 }
+}
+
+// One call more, and one difference more where what came is not right.
+fn with_call(progress: Progress, came: &[u8], should: &[u8]) -> Progress
+    ensures { λ r. ⌜ r ≡ counted progress (now (came .entry)) (now (should .entry)) ⌝ }
+{
+    Progress {
+        calls: std::num::wrapping_add_u32(progress.calls, 1),
+        different: std::num::wrapping_add_u32(
+            progress.different,
+            differences(is_right(came, should)),
+        ),
+    }
+}
+
+// Makes the call of a line whose label ends at a place, and counts it. Writes it where its answer is not right, or where every call is shown.
+fn run_call(
+    day: &mut [u32; 320],
+    progress: Progress,
+    line: &[u8],
+    colon: usize,
+    shows_all: bool,
+) -> Progress {
     let equals = words::place_of(line, colon, b'=');
     let call = words::part(line, std::num::wrapping_add_usize(colon, 2), equals);
-    let made = calls::make(day, call);
-    let after = made.day;
-    let came = made.came;
-    let different = judge(came, line, colon, equals, shows_all);
-    Progress {
-        day: after,
-        calls: std::num::wrapping_add_u32(progress.calls, 1),
-        different: std::num::wrapping_add_u32(progress.different, different),
+    let should = words::part(line, words::behind(equals, line.len()), line.len());
+    let text = calls::make(day, call);
+    let bytes = text.bytes;
+    let came = words::part(&bytes, 0, text.count);
+    let after = with_call(progress, came, should);
+    if shows_all {
+        show(words::part(line, 0, colon), came, should);
+        return after;
     }
+    if after.different != progress.different {
+        show(words::part(line, 0, colon), came, should);
+    }
+    after
 }
 
 // One line: a call, or a heading.
-fn run_line(progress: Progress, line: &[u8], shows_all: bool) -> Progress {
+fn run_line(day: &mut [u32; 320], progress: Progress, line: &[u8], shows_all: bool) -> Progress {
     let colon = words::place_of(line, 0, b':');
     if colon < line.len() {
-        return run_call(progress, line, colon, shows_all);
+        return run_call(day, progress, line, colon, shows_all);
     }
     if shows_all {
         text(line);
@@ -139,9 +159,8 @@ fn line_behind(held: &mut [u8], line: Line) -> Line
 }
 
 // Runs every line of standard input, read through a buffer.
-fn run_lines(held: &mut [u8], shows_all: bool) -> Progress {
+fn run_lines(held: &mut [u8], day: &mut [u32; 320], shows_all: bool) -> Progress {
     let mut progress = Progress {
-        day: ledger::no_day(),
         calls: 0,
         different: 0,
     };
@@ -157,7 +176,12 @@ fn run_lines(held: &mut [u8], shows_all: bool) -> Progress {
         if line.from == line.end {
             break;
         }
-        let after = run_line(progress, words::part(held, line.from, line.to), shows_all);
+        let after = run_line(
+            day,
+            progress,
+            words::part(held, line.from, line.to),
+            shows_all,
+        );
         progress = after;
         lines += 1;
     }
@@ -174,6 +198,7 @@ fn show_counts(calls: u32, different: u32) {
 // Runs the script on standard input. Writes every call, or those alone whose answer is not right, and last the number of calls and of differences.
 pub fn run(shows_all: bool) {
     let mut held = io::large_buffer();
-    let progress = run_lines(&mut held, shows_all);
+    let mut day = [0u32; 320];
+    let progress = run_lines(&mut held, &mut day, shows_all);
     show_counts(progress.calls, progress.different);
 }

@@ -1,6 +1,8 @@
 // The words of a line: places of bytes, parts of runs, and numbers in decimal. Every function here takes any bytes and any places.
 ghost use mathlib.Core.Path.{_≡_};
-ghost use Prim.Native.Nat.{_+_, _≤_, min};
+ghost use Prim.Native.Nat.{_+_, min};
+ghost use lib.ListN.{length, drop};
+ghost use Rattle.script.specs.Judging.{upTo};
 
 // What '-' stands for among the numbers: below scale, or no Lmax.
 pub const NONE: u32 = 4294967295;
@@ -39,9 +41,19 @@ pub fn numbers_part(numbers: &[u16], from: usize, to: usize) -> &[u16] {
     &numbers[..0]
 }
 
+// And of records.
+pub fn records_part(records: &[u64], from: usize, to: usize) -> &[u64] {
+    if to <= records.len() {
+        if from <= to {
+            return &records[from..to];
+        }
+    }
+    &records[..0]
+}
+
 // The first place of a byte from another place on, or where none is left.
 pub fn place_of(bytes: &[u8], from: usize, byte: u8) -> usize
-    ensures { λ r. ⌜ from ≤ r ⌝ }
+    ensures { λ r. ⌜ r ≡ from + length (upTo byte (drop from (now (bytes .entry)))) ⌝ }
 {
     let mut i = from;
     while i < bytes.len() {

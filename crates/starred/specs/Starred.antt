@@ -13,8 +13,8 @@ use Rattle.event.specs.Event.{exposureOf}
 use Rattle.ledger.specs.Day.{opened}
 use Rattle.ledger.specs.Offer.{Offering, offered}
 use Rattle.ledger.specs.declared.Day.{Day}
-use Rattle.closing.specs.Close.{CloseResult, closed, closedOf}
-use Rattle.mean.specs.Mean.{MeanResult, mean, weekMeanOf}
+use Rattle.closing.specs.Close.{Closing, closed}
+use Rattle.mean.specs.Mean.{weekMeanOf}
 use Rattle.land.specs.Classes.{I}
 use Rattle.land.specs.Verdict.{Assessment, verdictOf}
 use Rattle.land.specs.Answers.{findingReading}
@@ -42,20 +42,20 @@ pub data Question : Type 0 where
 abbrev pub Answer : Question → Type 0
 Answer (mantissa f) = ℕ
 Answer (exposure samples) = Reading
-Answer (closing book offers) = CloseResult
-Answer (week days) = MeanResult
+Answer (closing book offers) = Outcome Closing
+Answer (week days) = Outcome Reading
 Answer (verdict class yearly sensitive highest) = Outcome Assessment
 
 -- the day after some offers
-abbrev pub dayOf : Day → List Offering → Day
-dayOf day [] = day
-dayOf day (o ∷ os) = dayOf (offered day o .day) os
+abbrev pub dayAfterOffers : Day → List Offering → Day
+dayAfterOffers day [] = day
+dayAfterOffers day (o ∷ os) = dayAfterOffers (offered day o .day) os
 
 -- the definitions' answer; a day is closed with the calibration of the example, 9400 before and after
 abbrev pub answer : (q : Question) → Answer q
 answer (mantissa f) = m f
 answer (exposure samples) = exposureOf samples
-answer (closing book offers) = closedOf (dayOf (opened (book .daytime) (book .night) .day) offers) 9400 9400
+answer (closing book offers) = closed (dayAfterOffers (opened (book .daytime) (book .night) .day) offers) 9400 9400
 answer (week days) = weekMeanOf days
 answer (verdict class yearly sensitive highest) = verdictOf class yearly sensitive highest
 
@@ -84,7 +84,8 @@ fiveSamples = 6000 ∷ 8000 ∷ 8000 ∷ 8000 ∷ 6000 ∷ []
 abbrev pub flyover : (start : ℕ) → Offering
 flyover start =
     record {
-      conditions = record { start = start; class = 0; wind = 30; wet = false; background = 6000 };
+      recording =
+          record { start = record { 0 = start }; class = 0; wind = 30; wet = false; background = record { 0 = 6000 } };
       samples = fiveSamples;
     }
 
@@ -103,20 +104,24 @@ lastDaytimeStart = 791999
 abbrev pub assessed : Finding → ℤ → Outcome Assessment
 assessed finding margin = given (record { finding = findingReading finding; margin = some margin })
 
--- The starred cases in the paper's order. What closing answers is `closed` with Ldn, the method, Nd', Nn' and the highest Lmax. Without a sensitive
--- building an Lmax above 9000 does not count. In the last two rows, nine of ten flights and eight of nine, the case is the method.
+-- what closing gives: Ldn, the method, Nd', Nn' and the highest Lmax
+abbrev pub closes : (ldn : Reading) (method dayEvents nightEvents : ℕ) (highest : Option ℕ) → Outcome Closing
+closes ldn method dayEvents nightEvents highest =
+    given (record { ldn = ldn; method = method; dayEvents = dayEvents; nightEvents = nightEvents; highest = highest })
+
+-- The starred cases in the paper's order. Without a sensitive building an Lmax above 9000 does not count. In the last two rows, nine of ten flights and eight of nine, the case is the method.
 abbrev pub starred : List Row
 starred =
     mantissa 500 is 3162277660
     ∷ exposure fiveSamples is level 7477
-    ∷ closing (oneClass 1 0) (flyovers 1 noon) is closed (level 2540) 1 1 0 (some 8000)
-    ∷ closing (oneClass 0 1) (flyovers 1 lastDaytimeStart) is closed (level 3540) 1 0 1 (some 8000)
-    ∷ closing (oneClass 2 0) (flyovers 1 noon) is closed (level 2838) 2 1 0 (some 8000)
-    ∷ week (level 7000 ∷ replicate 6 (level 6000)) is mean (level 6359)
-    ∷ week (replicate 7 (level 6000)) is mean (level 6000)
-    ∷ closing (oneClass 0 0) [] is closed below-scale 1 0 0 none
+    ∷ closing (oneClass 1 0) (flyovers 1 noon) is closes (level 2540) 1 1 0 (some 8000)
+    ∷ closing (oneClass 0 1) (flyovers 1 lastDaytimeStart) is closes (level 3540) 1 0 1 (some 8000)
+    ∷ closing (oneClass 2 0) (flyovers 1 noon) is closes (level 2838) 2 1 0 (some 8000)
+    ∷ week (level 7000 ∷ replicate 6 (level 6000)) is given (level 6359)
+    ∷ week (replicate 7 (level 6000)) is given (level 6000)
+    ∷ closing (oneClass 0 0) [] is closes below-scale 1 0 0 none
     ∷ verdict I (level 5700) false (some 9001) is assessed Within (pos 0)
     ∷ verdict I (level 5701) false (some 9001) is assessed OverLevel (negℤ (pos 1))
-    ∷ closing (oneClass 10 0) (flyovers 9 noon) is closed (level 3494) 1 9 0 (some 8000)
-    ∷ closing (oneClass 9 0) (flyovers 8 noon) is closed (level 3491) 2 8 0 (some 8000)
+    ∷ closing (oneClass 10 0) (flyovers 9 noon) is closes (level 3494) 1 9 0 (some 8000)
+    ∷ closing (oneClass 9 0) (flyovers 8 noon) is closes (level 3491) 2 8 0 (some 8000)
     ∷ []

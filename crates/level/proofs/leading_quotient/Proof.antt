@@ -10,10 +10,10 @@ use Rattle.level.proofs.leading_quotient.Statement.{statement}
 use Rattle.level.proofs.leading_quotient.Tie as tie
 
 abbrev Inv-loop : tie.InvT-loop
-Inv-loop divisor quotient₀ tens₀ quotient tens = Reducing quotient₀ quotient tens
+Inv-loop divisor quotient₀ omitted₀ quotient omitted = Reducing quotient₀ quotient omitted
 
 abbrev μ-loop : tie.MeasureT-loop
-μ-loop divisor quotient₀ tens₀ quotient tens = 100 - tens
+μ-loop divisor quotient₀ omitted₀ quotient omitted = 100 - omitted
 
 -- in the loop the quotient passes 64 bits
 passes : (c : tie.Then1 Inv-loop μ-loop) → base * base ≤ value (c .before .before .before .loop .quotient)

@@ -5,10 +5,10 @@ use Rattle.level.proofs.ten_digits.Statement.{statement}
 use Rattle.level.proofs.ten_digits.Tie as tie
 
 abbrev Inv-loop : tie.InvT-loop
-Inv-loop digits₀ tens₀ digits tens = Shortening digits₀ tens₀ digits tens
+Inv-loop digits₀ omitted₀ digits omitted = Shortening digits₀ omitted₀ digits omitted
 
 abbrev μ-loop : tie.MeasureT-loop
-μ-loop digits₀ tens₀ digits tens = digits
+μ-loop digits₀ omitted₀ digits omitted = digits
 
 loop-holds : tie.Need-loop-holds Inv-loop μ-loop
 loop-holds c = shortening-starts (search needs)

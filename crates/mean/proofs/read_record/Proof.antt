@@ -46,7 +46,7 @@ use Rattle.quantity.proofs.Refusal as F
 use Rattle.quantity.proofs.Refusal.Laws as F′
 use Rattle.mean.specs.declared.ReadAnswer.{ReadAnswer}
 use Rattle.mean.specs.declared.ReadAnswer.the-variants.{Record, Refused}
-use Rattle.mean.specs.Records.{blank, readResult, recordAt}
+use Rattle.mean.specs.Records.{blank, readOutcome, recordAt}
 use Rattle.mean.proofs.ReadAnswer as R
 use Rattle.mean.proofs.ReadAnswer.Laws as R′
 use Rattle.mean.proofs.Elements.{vals, fits-12}
@@ -93,7 +93,7 @@ module _ {M : Type 1} (𝓤 : URA M) (H : Heap 𝓤) (A : Atoms 𝓤) (W : Given
   abbrev Post : Val → SProp 𝓤
   Post = walkOf 𝓤 H A read.ended stayed (read.clauses 𝓤 H A mem run) .post (((κ, tt), (q, tt), tt, x, at), tt)
 
-  exits : (a : ReadAnswer) (w : Val) → Is R.the-row a (w ∷ []) → readResult a ≡ recordAt ys i → ent 𝓤 (⋆ 𝓤 H A (‵ (flft κ q) ∷ ‵ Own ∷ ‵ (usize .own i (vint w64 i ∷ [])) ∷ [])) (Post w)
+  exits : (a : ReadAnswer) (w : Val) → Is R.the-row a (w ∷ []) → readOutcome a ≡ recordAt ys i → ent 𝓤 (⋆ 𝓤 H A (‵ (flft κ q) ∷ ‵ Own ∷ ‵ (usize .own i (vint w64 i ∷ [])) ∷ [])) (Post w)
   exits a w is e =
       qed W (‵ (flft κ q) ∷ ‵ Own ∷ ‵ (usize .own i (vint w64 i ∷ [])) ∷ []) ∵
       suffices ! _ (ends-at 𝓤 H A read.ended stayed (read.clauses 𝓤 H A mem run) W (((κ, tt), (q, tt), tt, x, at), tt) w a (tt, (tt, tt)) (tt, (tt, tt))) $ says ! e $

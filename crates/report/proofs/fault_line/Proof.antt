@@ -1,16 +1,15 @@
 -- `report::fault_line` meets its contract: the letter, the number and the end.
-use borrow.Author.Needs.{needs}
 use Rattle.io.proofs.Counting.{counts}
+use Rattle.report.proofs.Putting.{then, last-field}
+use borrow.Author.Needs.{needs}
 use Rattle.report.proofs.fault_line.Statement.{statement}
 use Rattle.report.proofs.fault_line.Tie as tie
 
 returns : tie.Need-returns
 returns c =
-    let number = c .before .before .before in
-    let letter = number .before .before .before in (
-      counts _ _ (search needs),
-      (rw (c .put2 .ensures .0, number .put-number .ensures .0, number .before .refusal-number .ensures, letter .put .ensures .0), search needs),
-    )
+    let fault = c .before .before .before in
+    let number = rw (fault .before .refusal-number .ensures) at (fault .put-number .ensures .0) in
+    (counts _ _ (search needs), then (fault .before .before .before .put .ensures) (then (last-field number) (c .put2 .ensures)))
 
 pub fault-line-spec : {M : Type 1} → statement M
 fault-line-spec =

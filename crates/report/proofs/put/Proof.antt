@@ -6,7 +6,7 @@ use native.Mathlib.Numerals.{add-one}
 use native.Mathlib.Omega.{arith}
 use borrow.Author.Needs.{needs}
 use lib.ListN.{length}
-use lib.Seq.{paste, paste-zero, paste-suc, take-paste, drop-paste, take-length}
+use lib.Seq.{paste, paste-zero, paste-suc, take-length}
 use Rattle.report.proofs.put.Statement.{statement}
 use Rattle.report.proofs.put.Tie as tie
 
@@ -32,10 +32,8 @@ returns : tie.Need-returns Inv-loop μ-loop
 returns c =
     let s = c .before in
     let a = s .before .args in
-    let all : s .loop .i ≡ length (a .bytes .now) = omega arith in (
-      rw (s .loop .inv .2, all, take-paste (a .line .now) (a .at) (a .bytes .now) (length (a .bytes .now)) (omega arith) (omega arith), take-length),
-      (refl, rw (s .loop .inv .2, all) (drop-paste (a .line .now) (a .at) (a .bytes .now) (length (a .bytes .now)) (omega arith) (omega arith))),
-    )
+    let all : s .loop .i ≡ length (a .bytes .now) = omega arith in
+    record { end = refl; inside = search needs; line = rw (s .loop .inv .2, all, take-length) }
 
 pub put-spec : {M : Type 1} → statement M
 put-spec =

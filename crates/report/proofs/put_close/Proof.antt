@@ -1,4 +1,4 @@
--- `report::put_close` meets its contract: the fields of a closing, or the refusal.
+-- `report::put_close` meets its contract: what the answer has, or the refusal.
 use borrow.Author.Needs.{needs}
 use Rattle.report.proofs.put_close.Statement.{statement}
 use Rattle.report.proofs.put_close.Tie as tie

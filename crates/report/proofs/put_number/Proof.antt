@@ -1,12 +1,10 @@
--- `report::put_number` meets its contract: the fewest digits of the number, behind a space.
+-- `report::put_number` meets its contract: a space, then the digits.
 use mathlib.Core.Path.{_∙_}
-use mathlib.Core.List.{[], _∷_, append-assoc, append-nil}
 use Prim.Native.Nat.{_≤_}
 use native.Mathlib.Omega.{arith}
-use borrow.Author.Needs.{needs}
-use lib.ListN.{take}
-use Rattle.report.specs.Text.{decimal}
 use Rattle.report.proofs.Decimal.{fewest-decimal, at-most}
+use Rattle.report.proofs.Putting.{then}
+use borrow.Author.Needs.{needs}
 use Rattle.report.proofs.put_number.Statement.{statement}
 use Rattle.report.proofs.put_number.Tie as tie
 
@@ -21,13 +19,9 @@ returns : tie.Need-returns
 returns c =
     let space = c .before .before .before in
     let number = space .before .before .before in
-    let a = number .before .before .args in
-    let k = number .decimal .result in
     let most = few number in
-    let same = number .decimal .ensures .1 .1 ∙ fewest-decimal k (a .n) (number .decimal .ensures .1 .0) (omega arith) in (
-      rw (c .put2 .ensures .0, space .put .ensures .0, same, append-nil (decimal (a .n))) (append-assoc (take (a .at) (a .line .now)) (32 ∷ []) (decimal (a .n))),
-      omega arith,
-    )
+    let same = number .decimal .ensures .1 .1 ∙ fewest-decimal (number .decimal .result) (number .before .before .args .n) (number .decimal .ensures .1 .0) (omega arith) in
+    (then (space .put .ensures) (rw same at (c .put2 .ensures)), search needs)
 
 pub put-number-spec : {M : Type 1} → statement M
 put-number-spec =

@@ -7,10 +7,10 @@ use Rattle.script.proofs.run_lines.Statement.{statement}
 use Rattle.script.proofs.run_lines.Tie as tie
 
 abbrev Inv-loop : tie.InvT-loop
-Inv-loop held₀ shows-all progress₀ line₀ lines₀ held progress line lines = (line .end ≤ length held) × (length held ≡ length held₀)
+Inv-loop held₀ day₀ shows-all progress₀ line₀ lines₀ held day progress line lines = (line .end ≤ length held) × (length held ≡ length held₀)
 
 abbrev μ-loop : tie.MeasureT-loop
-μ-loop held₀ shows-all progress₀ line₀ lines₀ held progress line lines = 1000000 - lines
+μ-loop held₀ day₀ shows-all progress₀ line₀ lines₀ held day progress line lines = 1000000 - lines
 
 pub run-lines-spec : {M : Type 1} → statement M
 run-lines-spec =
@@ -18,7 +18,6 @@ run-lines-spec =
     (tie.spec
     Inv-loop
     μ-loop
-    (λ c κs. search needs)
     (λ c. search needs)
     (λ c κs. search needs)
     (λ c κs. search needs)

@@ -1,36 +1,40 @@
 -- `script::words::place_of` meets its contract: the search goes on from the place.
-use Prim.Native.Nat.{_-_, _≤_}
-use lib.ListN.{length}
+use mathlib.Core.Path.{_≡_, refl}
+use Prim.Native.Nat.{_+_, _-_}
+use native.Mathlib.Numerals.{add-one}
+use native.Mathlib.Omega.{arith}
+use lib.ListN.{length, drop}
+use Rattle.script.specs.Judging.{upTo}
+use Rattle.script.proofs.Judging.{found, passed, ended}
 use borrow.Author.Needs.{needs}
 use Rattle.script.proofs.words.place_of.Statement.{statement}
 use Rattle.script.proofs.words.place_of.Tie as tie
 
 abbrev Inv-loop : tie.InvT-loop
-Inv-loop bytes from byte i₀ i = from ≤ i
+Inv-loop bytes from byte i₀ i = from + length (upTo byte (drop from bytes)) ≡ i + length (upTo byte (drop i bytes))
 
 abbrev μ-loop : tie.MeasureT-loop
 μ-loop bytes from byte i₀ i = length bytes - i
 
 loop-holds : tie.Need-loop-holds Inv-loop μ-loop
-loop-holds c = search needs
-
-shared-slice-read-if1 : tie.Need-shared-slice-read-if1 Inv-loop μ-loop
-shared-slice-read-if1 c = search needs
+loop-holds c = refl
 
 returns : tie.Need-returns Inv-loop μ-loop
-returns c = search needs
-
-add-i : tie.Need-add-i Inv-loop μ-loop
-add-i c = search needs
-
-loop-less : tie.Need-loop-less Inv-loop μ-loop
-loop-less c = search needs
+returns c =
+    let k = c .before .before .before in
+    let a = k .before .args in
+    omega (arith, k .loop .inv, found (a .byte) (a .bytes .now) (k .loop .i) (c .before .before .loop-test .taken) (c .if1 .taken))
 
 loop-again : tie.Need-loop-again Inv-loop μ-loop
-loop-again c = search needs
+loop-again c =
+    let k = c .before .before .before in
+    let a = k .before .args in
+    rw add-one (omega (arith, k .loop .inv, passed (a .byte) (a .bytes .now) (k .loop .i) (c .before .before .loop-test .taken) (c .if1 .left)))
 
 returns-2 : tie.Need-returns-2 Inv-loop μ-loop
-returns-2 c = search needs
+returns-2 c =
+    let a = c .before .before .args in
+    omega (arith, c .before .loop .inv, ended (a .byte) (a .bytes .now) (c .before .loop .i) (c .loop-test .left))
 
 pub place-of-spec : {M : Type 1} → statement M
 place-of-spec =
@@ -39,9 +43,9 @@ place-of-spec =
     Inv-loop
     μ-loop
     loop-holds
-    shared-slice-read-if1
+    (λ c. search needs)
     returns
-    add-i
-    loop-less
+    (λ c. search needs)
+    (λ c. search needs)
     loop-again
     returns-2)

@@ -1,0 +1,166 @@
+-- Demand 3 through C: what a caller reads is the outcome that the claims of `accuracy` speak of.
+use mathlib.Core.Path.{_≡_, refl, sym, ap, ap₂, subst, _∙_}
+use mathlib.Core.Bool.{true, false}
+use mathlib.Core.List.{List, [], _∷_, map}
+use Prim.Native.Nat.{ℕ, zero, suc, _+_, _*_, _^_, _≤_, _<_}
+use native.Mathlib.Omega.{arith}
+use borrow.Author.Needs.{needs}
+use borrow.Author.Tests.{ltb-false, not-false}
+use lib.Dec.{ltb, lit<, lit≤}
+use lib.ListN.{length}
+use Rattle.quantity.specs.Answers.{Reading, level, reading, highestReading}
+use Rattle.quantity.specs.Rules.{Outcome, refused, given, firstOf, outcome}
+use Rattle.quantity.specs.declared.HighestLevel.{HighestLevel}
+use Rattle.quantity.specs.declared.HighestLevel.the-variants as highests
+use Rattle.quantity.proofs.Outcomes.{refuses}
+use Rattle.quantity.proofs.Refusing.{pass}
+use Rattle.quantity.proofs.Tests.{neither, test}
+use Rattle.level.specs.Level.{levelOf}
+use Rattle.ledger.specs.Book.{sumOf}
+use Rattle.ledger.specs.Day.{freshDay}
+use Rattle.ledger.specs.Offer.{Offering, Accepted, dayChecks, offered}
+use Rattle.ledger.specs.declared.Day.{Day}
+use Rattle.method.specs.Method.{methodOneHolds, methodBy, countsOf}
+use Rattle.closing.specs.Formula.{formulaBy}
+use Rattle.closing.specs.Close.{Closing, closeRules, closingOf, closed}
+use Rattle.closing.proofs.Answers.{divisor-positive}
+use Rattle.mean.specs.Mean.{isCountWrong, anyTooHigh, sumOfPowers, meanRules, meanOf}
+use Rattle.mean.specs.Records.{readings, DayReading}
+use Rattle.accuracy.specs.Tally.{started, tallyOf, offering, closing}
+use Rattle.accuracy.specs.Terminal.{dayAfterCalls}
+use Rattle.accuracy.specs.Demand.{OfferDemanded, CloseDemanded, Claim}
+use Rattle.accuracy.specs.Means.{ClosedDay, recordsOf, MeanDemanded, MeanClaim}
+use Rattle.accuracy.proofs.Claim.{claim}
+use Rattle.accuracy.proofs.Means.{mean-claim}
+use Rattle.day_words.specs.Words.{dayWords, dayFrom}
+use Rattle.c_interface.specs.Numbers.{levelNumber, highestNumber, recordNumber, recordLevel, recordLevels, Told, ToldHighest}
+use Rattle.c_interface.specs.Calls.{OfferLent, CloseLent, leaves, closeLeaves}
+use Rattle.c_interface.proofs.Written.{told-level, record-law, told-highest}
+use Rattle.c_accuracy.specs.Calls.{CCall, offer, close, callOf, lentTo, wordsOf}
+use Rattle.c_accuracy.specs.Demand.{offerSeen, closeSeen, meanSeen, CDemanded, CClaim, Wrote, AllWrote, CMeanClaim, CDemand3}
+use Rattle.c_accuracy.proofs.Told.{told-exposure, told-weighted, sum-most, told-mean}
+use Rattle.c_accuracy.proofs.Held.{Low, Reached, offeredBy, whole}
+
+-- an outcome that a caller reads as it is: its refusals have numbers, and its values are told
+abbrev Plain : {A : Type 0} → (A → Type 0) → Outcome A → Type 0
+Plain P (refused n) = 0 < n
+Plain P (given a) = P a
+
+offer-seen : (lent : OfferLent) (day : List ℕ) (r : Outcome Accepted) → Plain (λ a. Told (a .exposure)) r
+    → offerSeen (leaves lent r (λ a. record { day = day; exposure = levelNumber (a .exposure); lmax = a .lmax })) ≡ r
+offer-seen lent day (refused n) h = refuses n h _
+offer-seen lent day (given a) h = rw (told-level (a .exposure) h)
+
+close-seen : (lent : CloseLent) (r : Outcome Closing) → Plain (λ c. Told (c .ldn) × ToldHighest (c .highest)) r
+    → closeSeen (leaves lent r (λ c. record { dayRecord = recordNumber (c .ldn) (c .method); counts = c .dayEvents ∷ c .nightEvents ∷ highestNumber (c .highest) ∷ [] })) ≡ r
+close-seen lent (refused n) h = refuses n h _
+close-seen lent (given c) h =
+    let r = record-law (c .ldn) (c .method) (h .0) in
+    rw (r .0, r .1, told-highest (c .highest) (h .1))
+
+mean-seen : (lent : ℕ) (r : Outcome Reading) → Plain Told r → meanSeen (leaves lent r levelNumber) ≡ r
+mean-seen lent (refused n) h = refuses n h _
+mean-seen lent (given r) h = rw (told-level r h)
+
+-- the outcomes of offers and closings are such
+plain-offer : (d : Day) (o : Offering) → Plain (λ a. Told (a .exposure)) (offered d o .answer)
+plain-offer d o = go (firstOf (dayChecks d o)) refl
+  where
+    go : (n : ℕ) → firstOf (dayChecks d o) ≡ n → Plain (λ a. Told (a .exposure)) (offeredBy d o n .answer)
+    go zero h = told-exposure o _ _ _ h
+    go (suc n) h = omega arith
+
+low-told : (h : HighestLevel) → Low h → ToldHighest (highestReading h)
+low-told (highests.At l) p = omega arith
+low-told highests.Nothing p = tt
+
+closing-told : (d : Day) → Reached d → (before after : ℕ) → firstOf (closeRules before after (countsOf d)) ≡ 0 → Told (closingOf d .ldn)
+closing-told d r before after h =
+    let c = countsOf d in
+    let p = pass (closeRules before after c) (search needs) h in
+    let divides = divisor-positive c (not-false _ (p .1 .0)) in
+    let by-day = sum-most (d .daytime .booked) (r .fits .daytime .booked-narrow) in
+    let by-night = sum-most (d .night .booked) (r .fits .night .booked-narrow) in
+    let weight : sumOf (d .daytime .booked) + 10 * sumOf (d .night .booked) ≤ 10 ^ 8 = omega (arith, r .fits .daytime .booked, r .fits .night .booked) in
+    let f = formulaBy (methodBy c) (c .totals) in
+    test (methodOneHolds (c .totals))
+    (λ t. told-weighted (f .offset) (f .divisor) divides (rw t (lit≤ tt)) (rw t (lit≤ tt)) (r .energy true) (r .energy false))
+    (λ t. told-weighted (f .offset) (f .divisor) divides (rw t weight) (rw t weight) (r .energy true) (r .energy false))
+
+plain-closing : (d : Day) → Reached d → (before after : ℕ) → Plain (λ c. Told (c .ldn) × ToldHighest (c .highest)) (closed d before after)
+plain-closing d r before after = go (firstOf (closeRules before after (countsOf d))) refl
+  where
+    go : (n : ℕ) → firstOf (closeRules before after (countsOf d)) ≡ n → Plain (λ c. Told (c .ldn) × ToldHighest (c .highest)) (outcome n (closingOf d))
+    go zero h = (closing-told d r before after h, low-told (d .highest) (r .highest))
+    go (suc n) h = omega arith
+
+plain-mean : (fewest most : ℕ) (days : List Reading) → 0 < fewest → most ≤ 366 → Plain Told (meanOf fewest most days)
+unfolding meanOf
+plain-mean fewest most days some few = go (firstOf (meanRules (isCountWrong fewest most (length days)) (anyTooHigh days))) refl
+  where
+    go : (n : ℕ) → firstOf (meanRules (isCountWrong fewest most (length days)) (anyTooHigh days)) ≡ n → Plain Told (outcome n (levelOf 0 (length days) (sumOfPowers days)))
+    go zero h =
+        let p = pass (meanRules (isCountWrong fewest most (length days)) (anyTooHigh days)) (search needs) h in
+        let right = neither (ltb (length days) fewest) (ltb most (length days)) (p .0) in
+        told-mean days (omega (arith, ltb-false (length days) fewest (right .0))) (omega (arith, ltb-false most (length days) (right .1))) (p .1 .0)
+    go (suc n) h = omega arith
+
+-- offers and closings
+pub c-claim : CClaim
+unfolding CClaim Claim
+c-claim K day daytime night e calls call = go call
+  where
+    go : (call : CCall) → CDemanded K (tallyOf (started daytime night) (map callOf calls)) (wordsOf day daytime night calls) call
+    go (offer o exposure lmax) =
+        let w = whole day daytime night e calls in
+        let words = wordsOf day daytime night calls in
+        let d = dayFrom words in
+        subst (OfferDemanded K (tallyOf (started daytime night) (map callOf calls)) o)
+        (ap (λ (x : Day). offered x o .answer) (sym (w .1))
+        ∙ sym (offer-seen (lentTo words exposure lmax) (dayWords (offered d o .day)) (offered d o .answer) (plain-offer d o)))
+        (claim K daytime night (w .0) (map callOf calls) (offering o))
+    go (close before after lent) =
+        let w = whole day daytime night e calls in
+        let d = dayFrom (wordsOf day daytime night calls) in
+        subst (CloseDemanded K (tallyOf (started daytime night) (map callOf calls)) before after)
+        (ap (λ (x : Day). closed x before after) (sym (w .1)) ∙ sym (close-seen lent (closed d before after) (plain-closing d (w .2) before after)))
+        (claim K daytime night (w .0) (map callOf calls) (closing before after))
+
+-- the level of a record that calls through C wrote is that of the closing
+wrote-level : (d : ClosedDay) (n : ℕ) → Wrote d n → recordLevel n ≡ reading (d .kept .level)
+wrote-level d n x =
+    let w = whole (x .day) (d .daytime) (d .night) (x .opens) (x .calls) in
+    let words = wordsOf (x .day) (d .daytime) (d .night) (x .calls) in
+    let is : closed (dayFrom words) (d .before) (d .after) ≡ given (d .closing) =
+    ap (λ (y : Day). closed y (d .before) (d .after)) (w .1 ∙ ap (dayAfterCalls (freshDay (d .daytime) (d .night))) (x .same)) ∙ d .closes in
+    let told = subst (Plain (λ c. Told (c .ldn) × ToldHighest (c .highest))) is (plain-closing (dayFrom words) (w .2) (d .before) (d .after)) in
+    let written : closeLeaves (x .lent) words (d .before) (d .after) .lent .dayRecord ≡ recordNumber (d .closing .ldn) (d .closing .method) = rw is in
+    ap recordLevel (sym (x .is) ∙ written)
+    ∙ record-law (d .closing .ldn) (d .closing .method) (told .0) .0
+    ∙ sym (ap (λ (r : DayReading). r .level) (d .holds))
+
+wrote-levels : (days : List ClosedDay) (records : List ℕ) → AllWrote days records → recordLevels records ≡ readings (recordsOf days)
+unfolding recordLevels readings
+wrote-levels [] [] h = refl
+wrote-levels [] (n ∷ ns) h = absurd h
+wrote-levels (d ∷ ds) [] h = absurd h
+wrote-levels (d ∷ ds) (n ∷ ns) h = ap₂ _∷_ (wrote-level d n (h .0)) (wrote-levels ds ns (h .1))
+
+-- means
+mean-demanded : (fewest most K : ℕ) (days : List ClosedDay) (records : List ℕ) (lent : ℕ) → AllWrote days records → 0 < fewest → most ≤ 366
+    → MeanDemanded fewest most K days (meanOf fewest most (readings (recordsOf days)))
+    → MeanDemanded fewest most K days (meanSeen (leaves lent (meanOf fewest most (recordLevels records)) levelNumber))
+mean-demanded fewest most K days records lent h some few =
+    subst (MeanDemanded fewest most K days)
+    (ap (meanOf fewest most) (sym (wrote-levels days records h))
+    ∙ sym (mean-seen lent (meanOf fewest most (recordLevels records)) (plain-mean fewest most (recordLevels records) some few)))
+
+pub c-mean-claim : CMeanClaim
+unfolding CMeanClaim MeanClaim
+c-mean-claim K days measured records h lent =
+    let m = mean-claim K days measured in
+    (mean-demanded 7 7 K days records lent h (lit< tt) (lit≤ tt) (m .0), mean-demanded 1 366 K days records lent h (lit< tt) (lit≤ tt) (m .1))
+
+pub c-demand3 : CDemand3
+unfolding CDemand3
+c-demand3 = (c-claim, c-mean-claim)

@@ -1,0 +1,146 @@
+-- The words hold the day of the list of calls.
+use mathlib.Core.Path.{_≡_, refl, ap, _∙_}
+use mathlib.Core.Bool.{Bool, true, false}
+use mathlib.Core.List.{List, [], _∷_, map}
+use Prim.Native.Nat.{ℕ, zero, suc, _^_, _≤_, _<_}
+use native.Mathlib.Nat.{mod-lt}
+use native.Mathlib.Omega.{arith}
+use lib.Dec.{ltb, lit<}
+use Rattle.quantity.specs.Rules.{refused, given, firstOf, outcome, follow}
+use Rattle.quantity.specs.Limits.{highestSample}
+use Rattle.quantity.specs.declared.HighestLevel.{HighestLevel}
+use Rattle.quantity.specs.declared.HighestLevel.the-variants as highests
+use Rattle.quantity.specs.declared.Level.{Level}
+use Rattle.quantity.proofs.Tests.{test}
+use Rattle.limbs.specs.Value.{value, base}
+use Rattle.limbs.proofs.Digits.{value-limbsOf}
+use Rattle.event.specs.Event.{eventOf, energyOf}
+use Rattle.event.specs.Window.{highest}
+use Rattle.ledger.specs.Book.{bookRules}
+use Rattle.ledger.specs.Day.{Answered, freshDay, noDay, periodOf, withPeriod, energyIn}
+use Rattle.ledger.specs.Offer.{Offering, Accepted, dayChecks, inDaytime, withEvent, raised, admitted, offered}
+use Rattle.ledger.specs.declared.Day.{Day}
+use Rattle.ledger.specs.declared.Period.{Period}
+use Rattle.accuracy.specs.Terminal.{dayAfter, dayAfterCalls}
+use Rattle.accuracy.proofs.Windows.{admits}
+use Rattle.day_words.specs.Words.{dayWords, dayFrom, DayFits}
+use Rattle.day_words.proofs.Inverse.{inverse}
+use Rattle.day_words.proofs.Reached.{opened-fits, offered-fits}
+use Rattle.c_interface.specs.Calls.{openLeaves, leaves}
+use Rattle.c_interface.specs.Numbers.{levelNumber}
+use Rattle.c_accuracy.specs.Calls.{CCall, offer, close, callOf, lentTo, wordsAfter, wordsAfterCalls, wordsOf}
+use Rattle.c_accuracy.specs.Demand.{HeldLaw}
+
+-- what is known of a day that calls reach: it fits into its words, its sums into their limbs, and no Lmax is above the limit
+abbrev pub Low : HighestLevel → Type 0
+Low (highests.At l) = l .0 ≤ highestSample
+Low highests.Nothing = Unit
+
+pub record Reached (d : Day) : Type 0 where
+  pub fits : DayFits d
+  pub energy : (p : Bool) → energyIn (periodOf d p) < base ^ 4
+  pub highest : Low (d .highest)
+
+-- an opening and an offer by the number of the refusal, 0 where there is none
+abbrev openedBy : (daytime night : List ℕ) → ℕ → Answered Unit
+openedBy daytime night n =
+    follow (outcome n (freshDay daytime night)) (λ k. record { day = noDay; answer = refused k }) (λ d. record { day = d; answer = given tt })
+
+abbrev pub offeredBy : Day → Offering → ℕ → Answered Accepted
+offeredBy d o n = follow (outcome n (admitted d o)) (λ k. record { day = d; answer = refused k }) (λ a. a)
+
+-- an opening that is not refused leaves the words of the fresh day
+module _ (day daytime night : List ℕ) where
+  pub opens : openLeaves day daytime night .answer ≡ 0
+      → (firstOf (bookRules daytime night) ≡ 0) × (openLeaves day daytime night .lent ≡ dayWords (freshDay daytime night)) × DayFits (freshDay daytime night)
+  opens e = go (firstOf (bookRules daytime night)) refl e (opened-fits daytime night)
+    where
+      go : (n : ℕ) → firstOf (bookRules daytime night) ≡ n → leaves day (openedBy daytime night n .answer) (λ _. dayWords (openedBy daytime night n .day)) .answer ≡ 0 → DayFits (openedBy daytime night n .day)
+          → (firstOf (bookRules daytime night) ≡ 0) × (leaves day (openedBy daytime night n .answer) (λ _. dayWords (openedBy daytime night n .day)) .lent ≡ dayWords (freshDay daytime night)) × DayFits (freshDay daytime night)
+      go zero h e f = (h, refl, f)
+      go (suc n) h e f = absurd (omega arith)
+
+fresh-reached : (daytime night : List ℕ) → DayFits (freshDay daytime night) → Reached (freshDay daytime night)
+unfolding value
+fresh-reached daytime night f = record { fits = f; energy = none; highest = tt }
+  where
+    none : (p : Bool) → energyIn (periodOf (freshDay daytime night) p) < base ^ 4
+    none true = lit< tt
+    none false = lit< tt
+
+-- so is the day after an offer
+raised-low : (h : HighestLevel) (l : Level) → Low h → l .0 ≤ highestSample → Low (raised h l)
+raised-low highests.Nothing l p q = q
+raised-low (highests.At h) l p q = test (ltb (h .0) (l .0)) (λ t. rw t q) (λ t. rw t p)
+
+with-energy : (d : Day) (b : Bool) (class S : ℕ) → ((p : Bool) → energyIn (periodOf d p) < base ^ 4)
+    → (p : Bool) → energyIn (periodOf (withPeriod d b (withEvent (periodOf d b) class S)) p) < base ^ 4
+with-energy d true class S h true = rw value-limbsOf (mod-lt _ (lit< tt))
+with-energy d true class S h false = h false
+with-energy d false class S h true = h true
+with-energy d false class S h false = rw value-limbsOf (mod-lt _ (lit< tt))
+
+same-highest : (d : Day) (b : Bool) (p : Period) → withPeriod d b p .highest ≡ d .highest
+same-highest d true p = refl
+same-highest d false p = refl
+
+pub offered-reached : (d : Day) (o : Offering) → Reached d → Reached (offered d o .day)
+offered-reached d o r = go (firstOf (dayChecks d o)) refl (offered-fits d o (r .fits))
+  where
+    entered-low : highest (o .samples) ≤ highestSample → Low (admitted d o .day .highest)
+    entered-low h =
+        let by-day = inDaytime (o .recording) (eventOf (o .samples)) in
+        let p = withEvent (periodOf d by-day) (o .recording .class) (energyOf (o .samples)) in
+        raised-low (withPeriod d by-day p .highest) (eventOf (o .samples) .lmax) (rw (same-highest d by-day p) (r .highest)) h
+
+    entered : (p : Bool) → energyIn (periodOf (admitted d o .day) p) < base ^ 4
+    entered true = with-energy d (inDaytime (o .recording) (eventOf (o .samples))) (o .recording .class) (energyOf (o .samples)) (r .energy) true
+    entered false = with-energy d (inDaytime (o .recording) (eventOf (o .samples))) (o .recording .class) (energyOf (o .samples)) (r .energy) false
+
+    go : (n : ℕ) → firstOf (dayChecks d o) ≡ n → DayFits (offeredBy d o n .day) → Reached (offeredBy d o n .day)
+    go zero h f =
+        record {
+          fits = f;
+          energy = entered;
+          highest = entered-low (admits o _ _ _ h .level);
+        }
+    go (suc n) h f = r
+
+pub after-reached : (d : Day) (c : CCall) → Reached d → Reached (dayAfter d (callOf c))
+after-reached d (offer o exposure lmax) r = offered-reached d o r
+after-reached d (close before after lent) r = r
+
+-- the words after a call hold the day after it
+step : (words : List ℕ) (c : CCall) → Reached (dayFrom words) → dayFrom (wordsAfter words c) ≡ dayAfter (dayFrom words) (callOf c)
+step words (close before after lent) r = refl
+step words (offer o exposure lmax) r = go (firstOf (dayChecks (dayFrom words) o)) (offered-fits (dayFrom words) o (r .fits))
+  where
+    go : (n : ℕ) → DayFits (offeredBy (dayFrom words) o n .day)
+        → dayFrom (leaves (lentTo words exposure lmax) (offeredBy (dayFrom words) o n .answer) (λ a. record { day = dayWords (offeredBy (dayFrom words) o n .day); exposure = levelNumber (a .exposure); lmax = a .lmax }) .lent .day)
+        ≡ offeredBy (dayFrom words) o n .day
+    go zero f = inverse (admitted (dayFrom words) o .day) f
+    go (suc n) f = refl
+
+-- and so after a list of calls
+module _ where
+  after-calls : (words : List ℕ) (cs : List CCall) → Reached (dayFrom words)
+      → (dayFrom (wordsAfterCalls words cs) ≡ dayAfterCalls (dayFrom words) (map callOf cs)) × Reached (dayFrom (wordsAfterCalls words cs))
+  after-calls words [] r = (refl, r)
+  after-calls words (c ∷ cs) r =
+      let s = step words c r in
+      let rest = after-calls (wordsAfter words c) cs (rw s (after-reached (dayFrom words) c r)) in
+      (rest .0 ∙ ap (λ (d : Day). dayAfterCalls d (map callOf cs)) s, rest .1)
+
+-- the whole: the book opens, the words hold the day of the list, and it is such a day
+pub whole : (day daytime night : List ℕ) → openLeaves day daytime night .answer ≡ 0 → (calls : List CCall)
+    → (firstOf (bookRules daytime night) ≡ 0)
+    × (dayFrom (wordsOf day daytime night calls) ≡ dayAfterCalls (freshDay daytime night) (map callOf calls))
+    × Reached (dayFrom (wordsOf day daytime night calls))
+whole day daytime night e calls =
+    let o = opens day daytime night e in
+    let fresh = inverse (freshDay daytime night) (o .2) in
+    let a = after-calls (dayWords (freshDay daytime night)) calls (rw fresh (fresh-reached daytime night (o .2))) in
+    (o .0, rw (o .1) (rw fresh at (a .0)), rw (o .1) (a .1))
+
+pub held : HeldLaw
+held day daytime night e calls = whole day daytime night e calls .1

@@ -1,0 +1,78 @@
+-- Demand 3 through C (document 01, 'Powers', 'Day', 'Means'): the claims of the crate `accuracy`, of the numbers that a caller finds.
+use mathlib.Core.Path.{_≡_}
+use mathlib.Core.List.{List, [], _∷_, map}
+use Prim.Native.Nat.{ℕ}
+use lib.ListN.{getD}
+use Rattle.quantity.specs.Answers.{Reading}
+use Rattle.quantity.specs.Rules.{Outcome, outcome}
+use Rattle.ledger.specs.Day.{freshDay}
+use Rattle.ledger.specs.Offer.{Accepted}
+use Rattle.closing.specs.Close.{Closing}
+use Rattle.accuracy.specs.Tally.{Tally, started, tallyOf}
+use Rattle.accuracy.specs.Terminal.{dayAfterCalls}
+use Rattle.accuracy.specs.Demand.{OfferDemanded, CloseDemanded}
+use Rattle.accuracy.specs.Means.{ClosedDay, Measured, Each, MeanDemanded}
+use Rattle.day_words.specs.Words.{dayFrom}
+use Rattle.c_interface.specs.Numbers.{levelFrom, highestFrom, recordLevel, recordMethod}
+use Rattle.c_interface.specs.Calls.{Left, OfferLent, CloseLent, openLeaves, offerLeaves, closeLeaves, weekLeaves, yearLeaves}
+use Rattle.c_accuracy.specs.Calls.{CCall, offer, close, callOf, lentTo, wordsOf}
+
+-- the outcome that a caller reads: the number of the refusal, or what the numbers hold that were lent
+abbrev pub offerSeen : Left OfferLent → Outcome Accepted
+offerSeen l = outcome (l .answer) (record { exposure = levelFrom (l .lent .exposure); lmax = l .lent .lmax })
+
+abbrev pub closeSeen : Left CloseLent → Outcome Closing
+closeSeen l =
+    outcome (l .answer)
+    (record {
+      ldn = recordLevel (l .lent .dayRecord);
+      method = recordMethod (l .lent .dayRecord);
+      dayEvents = getD (l .lent .counts) 0 0;
+      nightEvents = getD (l .lent .counts) 1 0;
+      highest = highestFrom (getD (l .lent .counts) 2 0);
+    })
+
+abbrev pub meanSeen : Left ℕ → Outcome Reading
+meanSeen l = outcome (l .answer) (levelFrom (l .lent))
+
+-- for every words, every book that opens and every list of calls: the words hold the day of the list
+abbrev pub HeldLaw : Type 0
+HeldLaw =
+    (day daytime night : List ℕ) → openLeaves day daytime night .answer ≡ 0 → (calls : List CCall)
+    → dayFrom (wordsOf day daytime night calls) ≡ dayAfterCalls (freshDay daytime night) (map callOf calls)
+
+-- and for every K and one call more, what the caller reads stands in the demanded relation to the plain tally of the list
+abbrev pub CDemanded : ℕ → Tally → List ℕ → CCall → Type 0
+CDemanded K t day (offer o exposure lmax) = OfferDemanded K t o (offerSeen (offerLeaves (lentTo day exposure lmax) o))
+CDemanded K t day (close before after lent) = CloseDemanded K t before after (closeSeen (closeLeaves lent day before after))
+
+unfoldable pub CClaim : Type 0
+CClaim =
+    (K : ℕ) (day daytime night : List ℕ) → openLeaves day daytime night .answer ≡ 0 → (calls : List CCall) (call : CCall)
+    → CDemanded K (tallyOf (started daytime night) (map callOf calls)) (wordsOf day daytime night calls) call
+
+-- a record that calls through C wrote: an opening and calls with the arguments of the day, and a closing that is not refused
+pub record Wrote (d : ClosedDay) (written : ℕ) : Type 0 where
+  pub day : List ℕ
+  pub opens : openLeaves day (d .daytime) (d .night) .answer ≡ 0
+  pub calls : List CCall
+  pub same : map callOf calls ≡ d .calls
+  pub lent : CloseLent
+  pub is : closeLeaves lent (wordsOf day (d .daytime) (d .night) calls) (d .before) (d .after) .lent .dayRecord ≡ written
+
+abbrev pub AllWrote : List ClosedDay → List ℕ → Type 0
+AllWrote [] [] = Unit
+AllWrote [] (n ∷ ns) = ⊥
+AllWrote (d ∷ ds) [] = ⊥
+AllWrote (d ∷ ds) (n ∷ ns) = Wrote d n × AllWrote ds ns
+
+-- the mean of such records, of a week and of a year
+unfoldable pub CMeanClaim : Type 0
+CMeanClaim =
+    (K : ℕ) (days : List ClosedDay) → Each Measured days → (records : List ℕ) → AllWrote days records → (level : ℕ)
+    → MeanDemanded 7 7 K days (meanSeen (weekLeaves level records))
+    × MeanDemanded 1 366 K days (meanSeen (yearLeaves level records))
+
+-- Demand 3 whole, through C
+unfoldable pub CDemand3 : Type 0
+CDemand3 = CClaim × CMeanClaim

@@ -1,0 +1,3 @@
+-- Laws that the proofs of `c_interface` share.
+pub mod Records
+pub mod Written

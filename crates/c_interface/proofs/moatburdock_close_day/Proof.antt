@@ -1,0 +1,30 @@
+-- `c_interface::moatburdock_close_day` meets its contract: by the case of the answer; a refused closing writes nothing.
+use borrow.Author.Needs.{needs}
+use Rattle.c_interface.proofs.moatburdock_close_day.Statement.{statement}
+use Rattle.c_interface.proofs.moatburdock_close_day.Tie as tie
+
+returns : tie.Need-returns
+returns c =
+    let k = c .before .before in
+    let o = k .before .before in
+    rw (c .refusal-number .ensures, ← rw (o .before .decode .ensures) at (o .close-day .ensures), k .closed .given .1)
+
+returns-2 : tie.Need-returns-2
+returns-2 c =
+    let k = c .before .before .before .before .before in
+    let o = k .before .before in
+    rw (c .before .highest-number .ensures, c .before .before .record-of .ensures, ← rw (o .before .decode .ensures) at (o .close-day .ensures), k .closed2 .given .1)
+
+pub moatburdock-close-day-spec : {M : Type 1} → statement M
+moatburdock-close-day-spec =
+    tie.close
+    (tie.spec
+    (λ c κs. search needs)
+    (λ c κs. search needs)
+    (λ c. search needs)
+    (λ c κs. search needs)
+    (λ c. search needs)
+    (λ c κs. search needs)
+    (λ c κs. search needs)
+    returns
+    returns-2)

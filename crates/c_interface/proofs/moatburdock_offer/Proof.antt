@@ -1,0 +1,30 @@
+-- `c_interface::moatburdock_offer` meets its contract: by the case of the answer; a refused offer writes nothing.
+use borrow.Author.Needs.{needs}
+use Rattle.c_interface.proofs.moatburdock_offer.Statement.{statement}
+use Rattle.c_interface.proofs.moatburdock_offer.Tie as tie
+
+returns : tie.Need-returns
+returns c =
+    let k = c .before .before in
+    let o = k .before .before in
+    rw (c .refusal-number .ensures, ← rw (o .before .decode .ensures) at (o .offer .ensures), k .answer .given .1)
+
+returns-2 : tie.Need-returns-2
+returns-2 c =
+    let k = c .before .before .before .before .before in
+    let o = k .before .before in
+    rw (c .before .encode .ensures, c .level-number .ensures, ← rw (o .before .decode .ensures) at (o .offer .ensures), k .answer2 .given .1)
+
+pub moatburdock-offer-spec : {M : Type 1} → statement M
+moatburdock-offer-spec =
+    tie.close
+    (tie.spec
+    (λ c κs. search needs)
+    (λ c κs. search needs)
+    (λ c. search needs)
+    (λ c κs. search needs)
+    (λ c. search needs)
+    (λ c κs. search needs)
+    (λ c κs. search needs)
+    returns
+    returns-2)

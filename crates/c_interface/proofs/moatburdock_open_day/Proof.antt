@@ -1,0 +1,26 @@
+-- `c_interface::moatburdock_open_day` meets its contract: by the case of the answer; a refused opening writes nothing.
+use borrow.Author.Needs.{needs}
+use Rattle.c_interface.proofs.moatburdock_open_day.Statement.{statement}
+use Rattle.c_interface.proofs.moatburdock_open_day.Tie as tie
+
+returns : tie.Need-returns
+returns c =
+    let k = c .before .before in
+    rw (c .refusal-number .ensures, ← k .before .before .open-day .ensures, k .answer .given .1)
+
+returns-2 : tie.Need-returns-2
+returns-2 c =
+    let k = c .before .before .before in
+    rw (c .encode .ensures, ← k .before .before .open-day .ensures, k .enum-told .given .1)
+
+pub moatburdock-open-day-spec : {M : Type 1} → statement M
+moatburdock-open-day-spec =
+    tie.close
+    (tie.spec
+    (λ c κs. search needs)
+    (λ c. search needs)
+    (λ c κs. search needs)
+    (λ c. search needs)
+    (λ c κs. search needs)
+    returns
+    returns-2)

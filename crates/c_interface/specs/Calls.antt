@@ -1,0 +1,97 @@
+-- What each exported function answers and what is in what it was lent when it returns. A refused call leaves all of it as it was.
+use mathlib.Core.Bool.{Bool}
+use mathlib.Core.List.{List, [], _∷_}
+use Prim.Native.Nat.{ℕ}
+use lib.IntN.{ℤ}
+use lib.ListN.{length, getD, set}
+use Rattle.quantity.specs.Rules.{Outcome, outcome, follow, Rule, firstOf}
+use Rattle.ledger.specs.Day.{opened, timeAt}
+use Rattle.ledger.specs.Offer.{Offering, offered}
+use Rattle.closing.specs.Close.{closed}
+use Rattle.mean.specs.Mean.{weekMeanOf, yearMeanOf, isTooHigh}
+use Rattle.mean.specs.Records.{placeRule}
+use Rattle.land.specs.Classes.{classOf}
+use Rattle.land.specs.Verdict.{landClassOf, verdictOf}
+use Rattle.day_words.specs.Words.{dayWords, dayFrom}
+use Rattle.c_interface.specs.Numbers.{levelNumber, levelFrom, highestNumber, highestFrom, recordNumber, recordLevel, recordLevels, findingNumber, marginNumber}
+
+-- the answer, 0 or the number of a refusal, and what was lent
+pub record Left (L : Type 0) : Type 0 where
+  pub answer : ℕ
+  pub lent : L
+
+-- a call that is refused leaves what it was lent as it was; one that gives a value leaves what is written for it
+abbrev pub leaves : {A L : Type 0} → L → Outcome A → (A → L) → Left L
+leaves lent result written =
+    follow result (λ n. record { answer = n; lent = lent }) (λ value. record { answer = 0; lent = written value })
+
+-- opening: the words of the fresh day
+abbrev pub openLeaves : List ℕ → (daytime night : List ℕ) → Left (List ℕ)
+openLeaves day daytime night = leaves day (opened daytime night .answer) (λ _. dayWords (opened daytime night .day))
+
+-- an offer by its numbers
+abbrev pub offeringAs : (start class wind : ℕ) (wet : Bool) (background : ℕ) → List ℕ → Offering
+offeringAs start class wind wet background samples =
+    record {
+      recording = record { start = timeAt start; class = class; wind = wind; wet = wet; background = record { 0 = background } };
+      samples = samples;
+    }
+
+-- an offer: the words of the day afterwards, LAE and Lmax
+pub record OfferLent : Type 0 where
+  pub day : List ℕ
+  pub exposure : ℕ
+  pub lmax : ℕ
+
+abbrev pub offerLeaves : OfferLent → Offering → Left OfferLent
+offerLeaves lent o =
+    let after = offered (dayFrom (lent .day)) o in
+    leaves lent (after .answer)
+    (λ a. record { day = dayWords (after .day); exposure = levelNumber (a .exposure); lmax = a .lmax })
+
+-- a closing: the day's record, and Nd', Nn' and the highest Lmax
+pub record CloseLent : Type 0 where
+  pub dayRecord : ℕ
+  pub counts : List ℕ
+
+abbrev pub closeLeaves : CloseLent → (day : List ℕ) (before after : ℕ) → Left CloseLent
+closeLeaves lent day before after =
+    leaves lent (closed (dayFrom day) before after)
+    (λ c. record {
+      dayRecord = recordNumber (c .ldn) (c .method);
+      counts = c .dayEvents ∷ c .nightEvents ∷ highestNumber (c .highest) ∷ [];
+    })
+
+-- a mean: its level
+abbrev pub weekLeaves : ℕ → List ℕ → Left ℕ
+weekLeaves level records = leaves level (weekMeanOf (recordLevels records)) levelNumber
+
+abbrev pub yearLeaves : ℕ → List ℕ → Left ℕ
+yearLeaves level records = leaves level (yearMeanOf (recordLevels records)) levelNumber
+
+-- reading a record, and rewriting one: 13 for the place, then 14 for the new level
+abbrev pub readLeaves : ℕ → List ℕ → ℕ → Left ℕ
+readLeaves dayRecord records place =
+    leaves dayRecord (outcome (firstOf (placeRule (length records) place ∷ [])) (getD records place 0)) (λ found. found)
+
+abbrev pub rewriteRules : List ℕ → ℕ → ℕ → List Rule
+rewriteRules records place new =
+    placeRule (length records) place ∷ record { number = 14; refuses = isTooHigh (recordLevel new) } ∷ []
+
+abbrev pub rewriteLeaves : List ℕ → ℕ → ℕ → Left (List ℕ)
+rewriteLeaves records place new =
+    leaves records (outcome (firstOf (rewriteRules records place new)) (set records place new)) (λ next. next)
+
+-- a verdict: what it names and the margin
+pub record VerdictLent : Type 0 where
+  pub finding : ℕ
+  pub margin : ℤ
+
+abbrev pub verdictLeaves : VerdictLent → (class yearly : ℕ) → Bool → ℕ → Left VerdictLent
+verdictLeaves lent class yearly sensitive lmax =
+    leaves lent (verdictOf class (levelFrom yearly) sensitive (highestFrom lmax))
+    (λ v. record { finding = findingNumber (v .finding); margin = marginNumber (v .margin) })
+
+-- the class of a land code
+abbrev pub classLeaves : ℕ → (letter digit : ℕ) → Left ℕ
+classLeaves class letter digit = leaves class (landClassOf (classOf letter digit)) (λ known. known)

@@ -1,0 +1,71 @@
+-- The numbers by which levels, day records, findings and margins go out of the library and come in.
+use mathlib.Core.Bool.{true, false, cond}
+use mathlib.Core.List.{List, [], _∷_}
+use mathlib.Core.Option.{Option, some, none}
+use mathlib.Core.Path.{_≡_}
+use Prim.Native.Nat.{ℕ, _+_, _*_, _/_, _%_, _<_}
+use lib.Dec.{eqb}
+use lib.IntN.{ℤ, pos}
+use Rattle.quantity.specs.Answers.{Reading, level, below-scale}
+use Rattle.land.specs.Verdict.{Finding, over, no-limit}
+
+-- the number that stands for 'below scale', and for no Lmax
+abbrev pub nothing : ℕ
+nothing = 4294967295
+
+abbrev pub levelFrom : ℕ → Reading
+levelFrom n = cond (eqb n nothing) below-scale (level n)
+
+abbrev pub levelNumber : Reading → ℕ
+levelNumber (level c) = c
+levelNumber below-scale = nothing
+
+abbrev pub highestFrom : ℕ → Option ℕ
+highestFrom n = cond (eqb n nothing) none (some n)
+
+abbrev pub highestNumber : Option ℕ → ℕ
+highestNumber (some c) = c
+highestNumber none = nothing
+
+-- a day's answer in one number of 64 bits: its level in the lower half, its method in the upper one
+abbrev pub upper : ℕ
+upper = 4294967296
+
+abbrev pub recordNumber : Reading → ℕ → ℕ
+recordNumber ldn method = levelNumber ldn + upper * method
+
+abbrev pub recordLevel : ℕ → Reading
+recordLevel n = levelFrom (n % upper)
+
+abbrev pub recordMethod : ℕ → ℕ
+recordMethod n = n / upper
+
+-- a level that is told from the number for 'below scale', as every level is that the library gives
+abbrev pub Told : Reading → Type 0
+Told (level c) = c < nothing
+Told below-scale = Unit
+
+abbrev pub ToldHighest : Option ℕ → Type 0
+ToldHighest (some c) = c < nothing
+ToldHighest none = Unit
+
+-- reading a record that was written gives the level and the method that were written
+abbrev pub RecordLaw : Type 0
+RecordLaw = (r : Reading) (method : ℕ) → Told r → (recordLevel (recordNumber r method) ≡ r) × (recordMethod (recordNumber r method) ≡ method)
+
+unfoldable pub recordLevels : List ℕ → List Reading
+recordLevels [] = []
+recordLevels (n ∷ rest) = recordLevel n ∷ recordLevels rest
+
+-- what a verdict names
+abbrev pub findingNumber : Finding → ℕ
+findingNumber (over false false) = 0
+findingNumber (over true false) = 1
+findingNumber (over false true) = 2
+findingNumber (over true true) = 3
+findingNumber no-limit = 4
+
+-- a margin; none is the largest number of 32 bits
+abbrev pub marginNumber : Option ℤ → ℤ
+marginNumber (some m) = m
+marginNumber none = pos 2147483647

@@ -1,0 +1,354 @@
+// The entry points for C and Rust: on numbers, and with the day as 320 words that the caller lends. Each answers 0 or the number of a refusal, and a
+// refused call leaves all that it was lent as it was. Levels are hundredths of a decibel; NOTHING stands for 'below scale' and for no Lmax.
+ghost use mathlib.Core.Path.{_≡_};
+ghost use Prim.Native.Nat.{_<_, _≤_};
+ghost use Rattle.quantity.specs.Answers.{reading, methodNumber, highestReading};
+ghost use Rattle.mean.specs.Mean.{meanOutcome, meanOf};
+ghost use Rattle.land.specs.Answers.{marginReading, findingReading};
+ghost use Rattle.c_interface.specs.Numbers.{
+  levelFrom,
+  levelNumber,
+  highestFrom,
+  highestNumber,
+  recordNumber,
+  recordLevel,
+  recordLevels,
+  findingNumber,
+  marginNumber,
+};
+ghost use Rattle.c_interface.specs.Calls.{
+  leaves,
+  openLeaves,
+  offeringAs,
+  offerLeaves,
+  closeLeaves,
+  weekLeaves,
+  yearLeaves,
+  readLeaves,
+  rewriteLeaves,
+  verdictLeaves,
+  classLeaves,
+};
+use closing::CloseAnswer;
+use land::Finding;
+use land::LandClassAnswer;
+use land::Margin;
+use land::VerdictAnswer;
+use ledger::OfferAnswer;
+use ledger::Recording;
+use mean::MeanAnswer;
+use mean::Total;
+use quantity::Check;
+use quantity::HighestLevel;
+use quantity::Level;
+use quantity::Method;
+use quantity::Reading;
+use quantity::Refusal;
+use quantity::Time;
+
+// What stands for 'below scale' and for no Lmax.
+const NOTHING: u32 = 4294967295;
+
+// What stands for no margin.
+const NO_MARGIN: i32 = 2147483647;
+
+// Where the method of a record begins.
+const UPPER: u64 = 4294967296;
+
+fn level_from(n: u32) -> Reading
+    ensures { λ r. ⌜ reading r ≡ levelFrom n ⌝ }
+{
+    if n == NOTHING {
+        return Reading::BelowScale;
+    }
+    Reading::At(Level(n))
+}
+
+pub fn level_number(level: Reading) -> u32
+    ensures { λ r. ⌜ r ≡ levelNumber (reading level) ⌝ }
+{
+    match level {
+        Reading::At(at) => at.0,
+        Reading::BelowScale => NOTHING,
+    }
+}
+
+fn highest_from(n: u32) -> HighestLevel
+    ensures { λ r. ⌜ highestReading r ≡ highestFrom n ⌝ }
+{
+    if n == NOTHING {
+        return HighestLevel::Nothing;
+    }
+    HighestLevel::At(Level(n))
+}
+
+pub fn highest_number(highest: HighestLevel) -> u32
+    ensures { λ r. ⌜ r ≡ highestNumber (highestReading highest) ⌝ }
+{
+    match highest {
+        HighestLevel::At(at) => at.0,
+        HighestLevel::Nothing => NOTHING,
+    }
+}
+
+// The level of a record.
+fn record_level(day_record: u64) -> Reading
+    ensures { λ r. ⌜ reading r ≡ recordLevel day_record ⌝ }
+{
+    level_from((day_record % UPPER) as u32)
+}
+
+// The record of a day's answer.
+fn record_of(ldn: Reading, method: Method) -> u64
+    ensures { λ r. ⌜ r ≡ recordNumber (reading ldn) (methodNumber method) ⌝ }
+{
+    level_number(ldn) as u64 + UPPER * (quantity::method_number(method) as u64)
+}
+
+// Opens a day on a book: for each class the flights by day and by night.
+#[no_mangle]
+pub extern "C" fn moatburdock_open_day(day: &mut [u32; 320], daytime: &[u16], night: &[u16]) -> u8
+    ensures { λ r.
+        ⌜
+        record { answer = r; lent = now (day .exit) }
+        ≡ openLeaves (now (day .entry)) (now (daytime .entry)) (now (night .entry))
+        ⌝ }
+{
+    let opened = ledger::open_day(daytime, night);
+    let answer = opened.answer;
+    match answer {
+        Check::Refused(refusal) => quantity::refusal_number(refusal),
+        Check::Passed => {
+            let fresh = opened.day;
+            day_words::encode(fresh, day);
+            0
+        }
+    }
+}
+
+// Offers an event to a day: its start in tenths of a second after midnight, the class of the flight, the wind in tenths of m/s, rain, snow or thunder,
+// the background level and the samples. Gives LAE and Lmax.
+#[no_mangle]
+pub extern "C" fn moatburdock_offer(
+    day: &mut [u32; 320],
+    start: u32,
+    class: u8,
+    wind: u16,
+    wet: bool,
+    background: u32,
+    samples: &[u16],
+    exposure: &mut u32,
+    lmax: &mut u32,
+) -> u8
+    ensures { λ r.
+        ⌜
+        record { answer = r; lent = record { day = now (day .exit); exposure = now (exposure .exit); lmax = now (lmax .exit) } }
+        ≡ offerLeaves
+        (record { day = now (day .entry); exposure = now (exposure .entry); lmax = now (lmax .entry) })
+        (offeringAs start class wind wet background (now (samples .entry)))
+        ⌝ }
+{
+    let recording = Recording {
+        start: Time(start),
+        class,
+        wind,
+        wet,
+        background: Level(background),
+    };
+    let offered = ledger::offer(day_words::decode(day), recording, samples);
+    let answer = offered.answer;
+    match answer {
+        OfferAnswer::Refused(refusal) => quantity::refusal_number(refusal),
+        OfferAnswer::Accepted {
+            exposure: level,
+            lmax: highest,
+        } => {
+            let after = offered.day;
+            day_words::encode(after, day);
+            *exposure = level_number(level);
+            *lmax = highest.0;
+            0
+        }
+    }
+}
+
+// Closes a day, with the calibration levels before and after. Gives the day's record, and Nd', Nn' and the highest Lmax.
+#[no_mangle]
+pub extern "C" fn moatburdock_close_day(
+    day: &[u32; 320],
+    before: u32,
+    after: u32,
+    day_record: &mut u64,
+    counts: &mut [u32; 3],
+) -> u8
+    ensures { λ r.
+        ⌜
+        record { answer = r; lent = record { dayRecord = now (day_record .exit); counts = now (counts .exit) } }
+        ≡ closeLeaves
+        (record { dayRecord = now (day_record .entry); counts = now (counts .entry) })
+        (now (day .entry)) before after
+        ⌝ }
+{
+    let closed = closing::close_day(day_words::decode(day), Level(before), Level(after));
+    match closed {
+        CloseAnswer::Refused(refusal) => quantity::refusal_number(refusal),
+        CloseAnswer::Closed(closing) => {
+            let answer = closing.answer;
+            let ldn = answer.level;
+            let method = answer.method;
+            let highest = closing.highest;
+            *day_record = record_of(ldn, method);
+            *counts = [
+                closing.day_events,
+                closing.night_events,
+                highest_number(highest),
+            ];
+            0
+        }
+    }
+}
+
+// The mean of the records, where their number is from the fewest to the most.
+fn mean_of(records: &[u64], fewest: usize, most: usize) -> MeanAnswer
+    requires { ⌜ (0 < fewest) × (most ≤ 366) ⌝ }
+    ensures { λ r. ⌜ meanOutcome r ≡ meanOf fewest most (recordLevels (now (records .entry))) ⌝ }
+{
+    let counted = mean::days_if_allowed(records.len(), fewest, most);
+    let table = power::mantissas();
+    let mut sums = [0u64; 21];
+    let mut high = false;
+    let mut i = 0;
+    while i < counted {
+        high = mean::add_day(&table, &mut sums, high, record_level(records[i]));
+        i += 1;
+    }
+    mean::mean_of_total(&table, Total { sums, high }, counted)
+}
+
+// Gives the level of a mean.
+fn give_mean(answer: MeanAnswer, level: &mut u32) -> u8
+    ensures { λ r. ⌜ record { answer = r; lent = now (level .exit) } ≡ leaves (now (level .entry)) (meanOutcome answer) levelNumber ⌝ }
+{
+    match answer {
+        MeanAnswer::Refused(refusal) => quantity::refusal_number(refusal),
+        MeanAnswer::Mean(mean) => {
+            *level = level_number(mean);
+            0
+        }
+    }
+}
+
+// The mean of a week, of exactly 7 records.
+#[no_mangle]
+pub extern "C" fn moatburdock_week_mean(records: &[u64], level: &mut u32) -> u8
+    ensures { λ r. ⌜ record { answer = r; lent = now (level .exit) } ≡ weekLeaves (now (level .entry)) (now (records .entry)) ⌝ }
+{
+    give_mean(mean_of(records, 7, 7), level)
+}
+
+// The mean of a year, of 1 to 366 records.
+#[no_mangle]
+pub extern "C" fn moatburdock_year_mean(records: &[u64], level: &mut u32) -> u8
+    ensures { λ r. ⌜ record { answer = r; lent = now (level .exit) } ≡ yearLeaves (now (level .entry)) (now (records .entry)) ⌝ }
+{
+    give_mean(mean_of(records, 1, 366), level)
+}
+
+// The record at a place of the year.
+#[no_mangle]
+pub extern "C" fn moatburdock_read_record(records: &[u64], place: usize, day_record: &mut u64) -> u8
+    ensures { λ r.
+        ⌜
+        record { answer = r; lent = now (day_record .exit) }
+        ≡ readLeaves (now (day_record .entry)) (now (records .entry)) place
+        ⌝ }
+{
+    if records.len() <= place {
+        return quantity::refusal_number(Refusal::DayCount);
+    }
+    *day_record = records[place];
+    0
+}
+
+// Puts a new record at a place of the year.
+#[no_mangle]
+pub extern "C" fn moatburdock_rewrite_record(records: &mut [u64], place: usize, new: u64) -> u8
+    ensures { λ r.
+        ⌜ record { answer = r; lent = now (records .exit) } ≡ rewriteLeaves (now (records .entry)) place new ⌝ }
+{
+    if records.len() <= place {
+        return quantity::refusal_number(Refusal::DayCount);
+    }
+    if mean::is_too_high(record_level(new)) {
+        return quantity::refusal_number(Refusal::RecordLevelTooHigh);
+    }
+    records[place] = new;
+    0
+}
+
+fn finding_number(finding: Finding) -> u8
+    ensures { λ r. ⌜ r ≡ findingNumber (findingReading finding) ⌝ }
+{
+    match finding {
+        Finding::Within => 0,
+        Finding::OverLevel => 1,
+        Finding::OverMaximum => 2,
+        Finding::Both => 3,
+        Finding::NoLimit => 4,
+    }
+}
+
+fn margin_number(margin: Margin) -> i32
+    ensures { λ r. ⌜ r ≡ marginNumber (marginReading margin) ⌝ }
+{
+    match margin {
+        Margin::Of(m) => m,
+        Margin::Nothing => NO_MARGIN,
+    }
+}
+
+// The verdict on land of a class, for a year's level, a sensitive building or none, and the highest Lmax. Gives what it names and the margin.
+#[no_mangle]
+pub extern "C" fn moatburdock_verdict(
+    class: u8,
+    yearly: u32,
+    sensitive: bool,
+    lmax: u32,
+    finding: &mut u8,
+    margin: &mut i32,
+) -> u8
+    ensures { λ r.
+        ⌜
+        record { answer = r; lent = record { finding = now (finding .exit); margin = now (margin .exit) } }
+        ≡ verdictLeaves
+        (record { finding = now (finding .entry); margin = now (margin .entry) })
+        class yearly sensitive lmax
+        ⌝ }
+{
+    let verdict = land::verdict(class, level_from(yearly), sensitive, highest_from(lmax));
+    match verdict {
+        VerdictAnswer::Refused(refusal) => quantity::refusal_number(refusal),
+        VerdictAnswer::Given(assessment) => {
+            let found = assessment.finding;
+            let distance = assessment.margin;
+            *finding = finding_number(found);
+            *margin = margin_number(distance);
+            0
+        }
+    }
+}
+
+// The class of a land code of two ASCII bytes.
+#[no_mangle]
+pub extern "C" fn moatburdock_land_class(letter: u8, digit: u8, class: &mut u8) -> u8
+    ensures { λ r. ⌜ record { answer = r; lent = now (class .exit) } ≡ classLeaves (now (class .entry)) letter digit ⌝ }
+{
+    let answer = land::land_class(letter, digit);
+    match answer {
+        LandClassAnswer::Refused(refusal) => quantity::refusal_number(refusal),
+        LandClassAnswer::Known(known) => {
+            *class = land::class_number(known);
+            0
+        }
+    }
+}

@@ -1,0 +1,114 @@
+-- Each run of calls over a file from an opened reader has printed the report of the file, and each file has such a run.
+use mathlib.Core.Path.{_≡_, refl, sym, ap, _∙_}
+use mathlib.Core.Bool.{Bool, true, false, true≢false}
+use mathlib.Core.List.{List, [], _∷_, _++_, append-nil}
+use Prim.Native.Nat.{ℕ, zero, suc, _+_, _<_}
+use native.Mathlib.Omega.{arith}
+use lib.Dec.{ltb}
+use lib.ListN.{length, take, drop, getD}
+use lib.Seq.{take-at, getD-drop}
+use Rattle.quantity.proofs.Tests.{test}
+use Rattle.day_words.specs.Words.{wordCount, dayWords}
+use Rattle.day_file.specs.File.{startOf, takenOf}
+use Rattle.steps.specs.declared.Reader.{Reader}
+use Rattle.steps.specs.declared.Stage.{Stage}
+use Rattle.steps.specs.declared.Stage.the-variants as stages
+use Rattle.steps.specs.Machine.{freshReader, isDone, lineFor, Next, startStep, eventStep, goesOn, stepOf, asks}
+use Rattle.steps.specs.Run.{goes-on, Run, at-end, by-step}
+use Rattle.steps.proofs.Ending.{by-answer, ends-law}
+use Rattle.steps.proofs.Running.{run-law}
+use Rattle.c_reader.specs.Words.{readerWords, readerFrom, ReaderFits}
+use Rattle.c_reader.specs.Calls.{cameNumber, lineOver, stepLeaves}
+use Rattle.c_reader.specs.Run.{Bytes, Calls, by-last, by-call, CallsLaw, CallsEnd, CallsEndLaw}
+use Rattle.c_reader.proofs.Inverse.{day-first, inverse}
+use Rattle.c_reader.proofs.Reached.{fresh-fits, step-fits}
+
+-- where a step answers 3 or more, the reader is behind the last line
+abbrev Last : Next → Type 0
+Last n = 2 < cameNumber (n .came) → isDone (n .reader) ≡ true
+
+last-on : (r : Reader) (window : List ℕ) → Last (goesOn (r .stage) r window)
+last-on r window = go (r .stage) refl
+  where
+    go : (g : Stage) → r .stage ≡ g → Last (goesOn (r .stage) r window)
+    go stages.Fresh h = rw h (by-answer Last (startStep r) (startOf window) (λ n _. refl) (λ x _ few. absurd (omega arith)))
+    go stages.Events h =
+        rw h
+        (test (ltb (r .done) (r .count))
+        (λ y. rw y (by-answer Last (eventStep r) (takenOf (r .day) window) (λ n _. refl) (λ x _ few. absurd (omega arith))))
+        (λ y. rw y (λ _. refl)))
+    go stages.Ended h = rw h (λ _. refl)
+
+last-law : (r : Reader) (window : List ℕ) (ended : Bool) → Last (stepOf r window ended)
+last-law r window ended = test (asks r window ended) (λ t. rw t (λ few. absurd (omega arith))) (λ t. rw t (last-on r window))
+
+-- the bytes of a part, and those that are left
+bytes-front : (window behind : List ℕ) → Bytes (window ++ behind) → Bytes window
+bytes-front [] behind h i = omega arith
+bytes-front (x ∷ xs) behind h zero = h 0
+bytes-front (x ∷ xs) behind h (suc i) = bytes-front xs behind (λ j. h (suc j)) i
+
+bytes-left : (n : ℕ) (file : List ℕ) → Bytes file → Bytes (drop n file)
+bytes-left n file h i = rw getD-drop (h (n + i))
+
+-- what is printed is the line
+printed-line : (text line : List ℕ) → take (length text) (lineOver text line) ≡ text
+printed-line text line = take-at text (drop (length text) line) (length text) refl
+
+-- a run of calls is a run of steps
+record Ran (r : Reader) (rest printed end : List ℕ) : Type 0 where
+  last : Reader
+  fits : ReaderFits last
+  words : end ≡ readerWords last
+  run : Run r rest printed last
+
+ran : {words rest printed end : List ℕ} → Calls words rest printed end → ReaderFits (readerFrom words) → Bytes rest → Ran (readerFrom words) rest printed end
+ran (by-last {words = words} {rest = rest} line window behind ended e says many) f bytes =
+    let r = readerFrom words in
+    let n = stepOf r window ended in
+    record {
+      last = n .reader;
+      fits = step-fits r window ended f (bytes-front window behind (rw e at bytes));
+      words = refl;
+      run = rw (printed-line (lineFor (n .came)) line, ← append-nil (lineFor (n .came))) (by-step window behind ended e says (at-end (last-law r window ended many)));
+    }
+ran (by-call {words = words} {rest = rest} line window behind ended e says more) f bytes =
+    let r = readerFrom words in
+    let n = stepOf r window ended in
+    let fits = step-fits r window ended f (bytes-front window behind (rw e at bytes)) in
+    let same = inverse (n .reader) fits in
+    let next = ran more (rw same fits) (bytes-left (n .used) rest bytes) in
+    record {
+      last = next .last;
+      fits = next .fits;
+      words = next .words;
+      run = rw (printed-line (lineFor (n .came)) line) (by-step window behind ended e says (rw same at next.run));
+    }
+
+pub calls-law : CallsLaw
+calls-law file printed end bytes calls =
+    let same = inverse freshReader fresh-fits in
+    let r = ran calls (rw same fresh-fits) bytes in
+    let law = run-law file printed (r .last) (rw same at r.run) in
+    (law .0, rw (r .words, day-first (r .last) (r .fits .day), law .1))
+
+-- and a run of steps gives a run of calls: behind the last line a call answers 5
+done-answer : (r : Reader) → isDone r ≡ true → 2 < cameNumber (stepOf r [] false .came)
+done-answer r e = go (r .stage) refl
+  where
+    go : (g : Stage) → r .stage ≡ g → 2 < cameNumber (stepOf r [] false .came)
+    go stages.Fresh h = absurd (true≢false (sym (rw h at e)))
+    go stages.Events h = absurd (true≢false (sym (rw h at e)))
+    go stages.Ended h = rw h (omega arith)
+
+calls-of : {r end : Reader} {rest printed : List ℕ} → Run r rest printed end → ReaderFits r → Bytes rest → CallsEnd (readerWords r) rest
+calls-of (at-end {s = r} {rest = rest} e) f bytes =
+    (_, _, by-last {words = readerWords r} [] [] rest false refl goes-on (rw (inverse r f) (done-answer r e)))
+calls-of (by-step {s = r} {rest = rest} window behind ended e says more) f bytes =
+    let n = stepOf r window ended in
+    let fits = step-fits r window ended f (bytes-front window behind (rw e at bytes)) in
+    let next = calls-of more fits (bytes-left (n .used) rest bytes) in
+    (_, next .1, by-call {words = readerWords r} {printed = next .0} {end = next .1} [] window behind ended e says (rw (inverse r f) (next .2)))
+
+pub calls-end-law : CallsEndLaw
+calls-end-law file bytes = calls-of (ends-law file .2) fresh-fits bytes

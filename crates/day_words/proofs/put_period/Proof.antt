@@ -1,0 +1,46 @@
+-- `day_words::put_period` meets its contract: the flights of the book, the accepted events and the limbs of the sum, one behind the other.
+use native.Mathlib.Omega.{arith}
+use borrow.Author.Needs.{needs}
+use Rattle.day_words.proofs.Putting.{put-both}
+use Rattle.day_words.proofs.put_period.Statement.{statement}
+use Rattle.day_words.proofs.put_period.Tie as tie
+
+slice-aggregate-put-counts : tie.Need-slice-aggregate-put-counts
+slice-aggregate-put-counts c = search needs
+
+put-counts-requires : tie.Need-put-counts-requires
+put-counts-requires c κs = omega (arith, slice-aggregate-put-counts c)
+
+slice-aggregate-put-counts-2 : tie.Need-slice-aggregate-put-counts-2
+slice-aggregate-put-counts-2 c = search needs
+
+put-counts-requires-2 : tie.Need-put-counts-requires-2
+put-counts-requires-2 c κs = omega (arith, slice-aggregate-put-counts (c .before .before .before), slice-aggregate-put-counts-2 c)
+
+slice-aggregate-put-words : tie.Need-slice-aggregate-put-words
+slice-aggregate-put-words c = search needs
+
+put-words-requires : tie.Need-put-words-requires
+put-words-requires c κs =
+    let second = c .before .before .before in
+    omega (arith, slice-aggregate-put-counts (second .before .before .before), slice-aggregate-put-counts-2 second, slice-aggregate-put-words c)
+
+returns : tie.Need-returns
+returns c =
+    let second = c .before .before .before in
+    let first = second .before .before .before in (
+      put-both (first .put-counts .ensures) (put-both (second .put-counts2 .ensures) (c .put-words .ensures)),
+      omega (arith, slice-aggregate-put-counts (first .before), slice-aggregate-put-counts-2 (second .before), slice-aggregate-put-words (c .before)),
+    )
+
+pub put-period-spec : {M : Type 1} → statement M
+put-period-spec =
+    tie.close
+    (tie.spec
+    slice-aggregate-put-counts
+    put-counts-requires
+    slice-aggregate-put-counts-2
+    put-counts-requires-2
+    slice-aggregate-put-words
+    put-words-requires
+    returns)

@@ -1,0 +1,95 @@
+-- A day as 320 words of 32 bits: for each period the flights of the book and the accepted events by class, and the limbs of its sum; then the number of
+-- classes, the end, whether there is a highest level, and that level; then words that are 0.
+use mathlib.Core.Bool.{cond}
+use mathlib.Core.List.{List, [], _∷_, _++_, map}
+use Prim.Native.Nat.{ℕ, _+_, _%_, _<_}
+use mathlib.Core.Path.{_≡_}
+use lib.Dec.{eqb}
+use lib.ListN.{length, take, drop, getD, replicate}
+use Rattle.quantity.specs.declared.HighestLevel.{HighestLevel}
+use Rattle.quantity.specs.declared.HighestLevel.the-variants as highests
+use Rattle.ledger.specs.Day.{timeAt, opened}
+use Rattle.ledger.specs.Offer.{Offering, offered}
+use Rattle.ledger.specs.declared.Period.{Period}
+use Rattle.ledger.specs.declared.Day.{Day}
+
+abbrev pub wordCount : ℕ
+wordCount = 320
+
+-- a period: 36 words
+abbrev pub periodWords : Period → List ℕ
+periodWords p = p .booked ++ (p .accepted ++ p .sum)
+
+-- the highest level: 1 and the level, or 0 and 0
+abbrev pub highestWords : HighestLevel → List ℕ
+highestWords (highests.At l) = 1 ∷ l .0 ∷ []
+highestWords highests.Nothing = 0 ∷ 0 ∷ []
+
+-- the rest of a day: 4 words
+abbrev pub restWords : Day → List ℕ
+restWords d = d .classes ∷ d .end .0 ∷ highestWords (d .highest)
+
+-- the words of a day: 76 that are used, and 244 that are 0
+unfoldable pub dayWords : Day → List ℕ
+dayWords d = periodWords (d .daytime) ++ (periodWords (d .night) ++ (restWords d ++ replicate 244 0))
+
+-- numbers are put behind the words that are there, and the words behind them stay as they are
+pub record Put (before : List ℕ) (at : ℕ) (numbers after : List ℕ) (next : ℕ) : Type 0 where
+  pub put : take next after ≡ take at before ++ numbers
+  pub rest : drop next after ≡ drop next before
+  pub place : next ≡ at + length numbers
+
+-- words from a place on; counts from a place on, each word modulo 2^16
+abbrev pub wordsAt : (words : List ℕ) (at count : ℕ) → List ℕ
+wordsAt words at count = take count (drop at words)
+
+abbrev pub narrowed : List ℕ → List ℕ
+narrowed = map (λ w. w % 65536)
+
+abbrev pub countsAt : (words : List ℕ) (at count : ℕ) → List ℕ
+countsAt words at count = narrowed (wordsAt words at count)
+
+-- the day that any 320 words stand for
+abbrev pub periodFrom : List ℕ → ℕ → Period
+periodFrom words at =
+    record { booked = countsAt words at 16; accepted = countsAt words (at + 16) 16; sum = wordsAt words (at + 32) 4 }
+
+abbrev pub highestFrom : (mark level : ℕ) → HighestLevel
+highestFrom mark level = cond (eqb mark 0) highests.Nothing (highests.At (record { 0 = level }))
+
+unfoldable pub dayFrom : List ℕ → Day
+dayFrom words =
+    record {
+      classes = getD words 72 0 % 256;
+      daytime = periodFrom words 0;
+      night = periodFrom words 36;
+      end = timeAt (getD words 73 0);
+      highest = highestFrom (getD words 74 0) (getD words 75 0);
+    }
+
+-- a day whose lists have the places of their arrays, whose classes fit into 8 bits and whose counts into 16, as every day has that a program holds
+abbrev pub Narrow : List ℕ → Type 0
+Narrow counts = (i : ℕ) → getD counts i 0 < 65536
+
+pub record PeriodFits (p : Period) : Type 0 where
+  pub booked : length (p .booked) ≡ 16
+  pub accepted : length (p .accepted) ≡ 16
+  pub sum : length (p .sum) ≡ 4
+  pub booked-narrow : Narrow (p .booked)
+  pub accepted-narrow : Narrow (p .accepted)
+
+pub record DayFits (d : Day) : Type 0 where
+  pub classes : d .classes < 256
+  pub daytime : PeriodFits (d .daytime)
+  pub night : PeriodFits (d .night)
+
+-- the words of a day stand for that very day
+abbrev pub InverseLaw : Type 0
+InverseLaw = (d : Day) → DayFits d → dayFrom (dayWords d) ≡ d
+
+-- the fresh day, the day of no class, and the day after an offer all fit, so the inverse law holds of every day that calls reach
+abbrev pub OpenedLaw : Type 0
+OpenedLaw = (daytime night : List ℕ) → DayFits (opened daytime night .day)
+
+abbrev pub OfferedLaw : Type 0
+OfferedLaw = (d : Day) (o : Offering) → DayFits d → DayFits (offered d o .day)

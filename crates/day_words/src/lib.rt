@@ -1,0 +1,165 @@
+// The day as 320 words of 32 bits, for callers that keep it in memory of their own. Any 320 words stand for a day, and the words of a day stand for that
+// very day.
+ghost use mathlib.Core.Path.{_≡_};
+ghost use Prim.Native.Nat.{_+_, _%_, _≤_};
+ghost use lib.ListN.{length};
+ghost use Rattle.day_words.specs.Words.{wordCount, periodWords, restWords, dayWords, Put, wordsAt, countsAt, periodFrom, highestFrom, dayFrom};
+use ledger::Day;
+use ledger::Period;
+use quantity::HighestLevel;
+use quantity::Level;
+use quantity::Time;
+
+// The words of a day. Those behind the last that is used are 0; fields to come take their places there.
+pub const DAY_WORDS: usize = 320;
+
+// Where the parts of a day begin: of a period its booked flights, its accepted events and its sum; of a day its periods and what stands behind them.
+const ACCEPTED: usize = 16;
+
+const SUM: usize = 32;
+
+const DAYTIME: usize = 0;
+
+const NIGHT: usize = 36;
+
+const CLASSES: usize = 72;
+
+const END: usize = 73;
+
+const HIGHEST_MARK: usize = 74;
+
+const HIGHEST: usize = 75;
+
+fn wide(count: u16) -> u32
+    ensures { λ r. ⌜ r ≡ count ⌝ }
+{
+    count as u32
+}
+
+// Puts counts behind the words that are there, one in each word, and gives the place behind the last.
+fn put_counts(words: &mut [u32], at: usize, counts: &[u16]) -> usize
+    requires { ⌜ at + length (now counts) ≤ length (now words) ⌝ }
+    ensures { λ r. ⌜ Put (now (words .entry)) at (now (counts .entry)) (now (words .exit)) r ⌝ }
+{
+    let mut i = 0;
+    while i < counts.len() {
+        words[at + i] = wide(counts[i]);
+        i += 1;
+    }
+    at + i
+}
+
+// The same of words.
+fn put_words(words: &mut [u32], at: usize, numbers: &[u32]) -> usize
+    requires { ⌜ at + length (now numbers) ≤ length (now words) ⌝ }
+    ensures { λ r. ⌜ Put (now (words .entry)) at (now (numbers .entry)) (now (words .exit)) r ⌝ }
+{
+    let mut i = 0;
+    while i < numbers.len() {
+        words[at + i] = numbers[i];
+        i += 1;
+    }
+    at + i
+}
+
+// Puts a period, 36 words.
+fn put_period(words: &mut [u32; 320], at: usize, period: Period) -> usize
+    requires { ⌜ at + 36 ≤ wordCount ⌝ }
+    ensures { λ r. ⌜ Put (now (words .entry)) at (periodWords period) (now (words .exit)) r ⌝ }
+    ensures place { λ r. ⌜ r ≡ at + 36 ⌝ }
+{
+    let booked = period.booked;
+    let accepted = period.accepted;
+    let sum = period.sum;
+    let first = put_counts(words, at, &booked);
+    let second = put_counts(words, first, &accepted);
+    put_words(words, second, &sum)
+}
+
+// The four words behind the periods.
+fn rest_of(day: Day) -> [u32; 4]
+    ensures { λ r. ⌜ r ≡ restWords day ⌝ }
+{
+    let classes = day.classes as u32;
+    let end = day.end.0;
+    let highest = day.highest;
+    match highest {
+        HighestLevel::Nothing => [classes, end, 0, 0],
+        HighestLevel::At(level) => [classes, end, 1, level.0],
+    }
+}
+
+// Writes the words of a day.
+pub fn encode(day: Day, words: &mut [u32; 320])
+    ensures { λ _. ⌜ now (words .exit) ≡ dayWords day ⌝ }
+{
+    let daytime = day.daytime;
+    let night = day.night;
+    let rest = rest_of(day);
+    *words = [0u32; 320];
+    let first = put_period(words, DAYTIME, daytime);
+    let second = put_period(words, first, night);
+    put_words(words, second, &rest);
+}
+
+fn narrow(word: u32) -> u16
+    ensures { λ r. ⌜ r ≡ word % 65536 ⌝ }
+{
+    (word % 65536) as u16
+}
+
+// The sixteen counts at a place, each word modulo 2^16.
+fn counts_at(words: &[u32], at: usize) -> [u16; 16]
+    requires { ⌜ at + 16 ≤ length (now words) ⌝ }
+    ensures { λ r. ⌜ r ≡ countsAt (now (words .entry)) at 16 ⌝ }
+{
+    let mut counts = [0u16; 16];
+    let mut i = 0;
+    while i < 16 {
+        counts[i] = narrow(words[at + i]);
+        i += 1;
+    }
+    counts
+}
+
+// The four limbs at a place.
+fn limbs_at(words: &[u32], at: usize) -> [u32; 4]
+    requires { ⌜ at + 4 ≤ length (now words) ⌝ }
+    ensures { λ r. ⌜ r ≡ wordsAt (now (words .entry)) at 4 ⌝ }
+{
+    [words[at], words[at + 1], words[at + 2], words[at + 3]]
+}
+
+// The period at a place.
+fn period_at(words: &[u32], at: usize) -> Period
+    requires { ⌜ at + 36 ≤ length (now words) ⌝ }
+    ensures { λ r. ⌜ r ≡ periodFrom (now (words .entry)) at ⌝ }
+{
+    Period {
+        booked: counts_at(words, at),
+        accepted: counts_at(words, at + ACCEPTED),
+        sum: limbs_at(words, at + SUM),
+    }
+}
+
+fn highest_from(mark: u32, level: u32) -> HighestLevel
+    ensures { λ r. ⌜ r ≡ highestFrom mark level ⌝ }
+{
+    if mark == 0 {
+        return HighestLevel::Nothing;
+    }
+    HighestLevel::At(Level(level))
+}
+
+// The day that some words stand for.
+pub fn decode(words: &[u32; 320]) -> Day
+    ensures { λ r. ⌜ r ≡ dayFrom (now (words .entry)) ⌝ }
+{
+    Day {
+        classes: (words[CLASSES] % 256) as u8,
+        daytime: period_at(words, DAYTIME),
+        night: period_at(words, NIGHT),
+        end: Time(words[END]),
+        highest: highest_from(words[HIGHEST_MARK], words[HIGHEST]),
+    }
+}

@@ -1,0 +1,2 @@
+-- The laws of `little_endian`: runs of numbers.
+pub mod Numbers

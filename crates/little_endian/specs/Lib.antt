@@ -1,0 +1,2 @@
+-- What the contracts of `little_endian` cite: numbers in a list of bytes.
+pub mod Bytes

@@ -1,0 +1,2 @@
+-- What the contracts of `stream` cite: a part of a buffer.
+pub mod Part

@@ -1,2 +1,0 @@
--- Laws that the proofs of `terminal` share.
-pub mod Records

@@ -1,0 +1,71 @@
+"""The layout of a day file (document 01, 'Day file'), in one place: each section as bytes, and the sections of some bytes. All numbers are little-endian."""
+import struct
+from collections import namedtuple
+
+ENTRY = '<HH'            # of the book: flights by day, flights by night
+CALIBRATION = '<BHH'     # count byte 2, level before, level after
+COUNT = '<H'             # of the events
+FIELDS = '<IBHBHH'       # of an event: start, class, wind, wet, background, number of samples
+MOST_SAMPLES = 6000
+
+Event = namedtuple('Event', 'start klass wind wet background samples')
+
+
+class Fault(Exception):
+    """what is wrong with a file, in words, and the number that the day program prints for it"""
+
+    def __init__(self, number, text):
+        super().__init__(text)
+        self.number = number
+
+
+def book(flights):
+    """flights: for each class those by day and those by night"""
+    return bytes([len(flights)]) + b''.join(struct.pack(ENTRY, *entry) for entry in flights)
+
+
+def calibration(before, after, count=2):
+    return struct.pack(CALIBRATION, count, before, after)
+
+
+def event(start, klass, wind, wet, background, samples, announced=None):
+    """announced: the number of samples that the record states, where it is not the right one"""
+    number = len(samples) if announced is None else announced
+    return struct.pack(FIELDS, start, klass, wind, wet, background, number) + struct.pack('<%dH' % len(samples), *samples)
+
+
+def events(records, announced=None):
+    """announced: the number of events that the file states, where it is not the right one"""
+    return struct.pack(COUNT, len(records) if announced is None else announced) + b''.join(records)
+
+
+def sections(data):
+    """The sections of a file in their order, each as soon as it is read: ('book', flights), ('calibration', (before, after)) and ('event', Event)
+    for each event. Raises the Fault of a faulty file where it is met; a book with too many flights is no fault of the layout."""
+    at = 0
+
+    def take(form):
+        nonlocal at
+        size = struct.calcsize(form)
+        if at + size > len(data):
+            raise Fault(16, 'the file ends early')
+        values = struct.unpack_from(form, data, at)
+        at += size
+        return values
+
+    classes, = take('<B')
+    if not 1 <= classes <= 16:
+        raise Fault(10, 'the book has %d classes' % classes)
+    yield 'book', [take(ENTRY) for _ in range(classes)]
+    count, = take('<B')
+    if count != 2:
+        raise Fault(16, 'the calibration has %d levels' % count)
+    yield 'calibration', take('<HH')
+    number, = take(COUNT)
+    for i in range(number):
+        *fields, n = take(FIELDS)
+        if n > MOST_SAMPLES:
+            raise Fault(16, 'event %d has %d samples' % (i + 1, n))
+        yield 'event', Event(*fields, list(take('<%dH' % n)))
+    if at < len(data):
+        raise Fault(17, '%d bytes stand behind the last event' % (len(data) - at))

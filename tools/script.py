@@ -1,0 +1,104 @@
+"""The scripts of calls that crates/script runs, as text: their lines, what the program prints for them, and their answers by the real arithmetic of
+noise.py.
+
+    LABEL: CALL WORDS = ANSWER      answers that are right are separated by '|', and one that is plausible and wrong stands behind ', not'
+    TEXT                            a line without ':' is a heading
+
+In the files of tools/cases 8000*3 stands for 8000 8000 8000."""
+import re
+from collections import namedtuple
+
+import noise
+
+# The label of a call whose stated answer is wrong, so that the program is seen to notice it, begins so.
+WRONG_ON_PURPOSE = 'wrong on purpose'
+
+Call = namedtuple('Call', 'label name numbers slash stated answers')
+
+
+def expanded(text):
+    """a text with each 8000*3 written out"""
+    return re.sub(r'(\d+|-)\*(\d+)', lambda m: ' '.join([m[1]] * int(m[2])), text)
+
+
+def parsed(line):
+    """the call of a line, or None for a heading"""
+    label, colon, rest = line.partition(':')
+    if not colon:
+        return None
+    call, _, stated = rest.partition('=')
+    name, *words = call.split()
+    slash = words.index('/') if '/' in words else 0
+    numbers = [None if w == '-' else int(w) for w in words if w != '/']
+    return Call(label, name, numbers, slash, stated, [a.strip() for a in stated.split(',')[0].split('|')])
+
+
+class Replay:
+    """the calls of a script by noise.py, one after the other"""
+
+    def __init__(self):
+        self.day = noise.Day([], [])
+
+    def book(self, call):
+        daytime, night = call.numbers[:call.slash], call.numbers[call.slash:]
+        opened = noise.opens(daytime, night)
+        self.day = noise.Day(daytime, night) if opened else noise.Day([], [])
+        return ['A' if opened else 'R 10']
+
+    def offer(self, call):
+        return self.day.offer_answers(*call.numbers[:5], call.numbers[5:])
+
+    def close(self, call):
+        return self.day.close_answers(*call.numbers)
+
+    def week(self, call):
+        return noise.mean_answers(call.numbers, len(call.numbers) == 7)
+
+    def year(self, call):
+        return noise.mean_answers(call.numbers, 1 <= len(call.numbers) <= 366)
+
+    def rewrite(self, call):
+        place, new, read, *levels = call.numbers
+        return [noise.rewriting_answer(levels, place, new, read)]
+
+    def verdict(self, call):
+        return [noise.verdict_answer(*call.numbers)]
+
+    def land(self, call):
+        return [noise.land_answer(*call.numbers)]
+
+    def answers(self, call):
+        """the answers that are right for the next call, the exact one first"""
+        return getattr(self, call.name)(call)
+
+
+def replayed(text):
+    """each call of a script, with the answers that are right by noise.py"""
+    replay = Replay()
+    for line in text.splitlines():
+        call = parsed(line)
+        if call:
+            yield call, replay.answers(call)
+
+
+def differences(text):
+    """a line for each call whose exact answer by noise.py is not among the stated ones"""
+    for call, right in replayed(text):
+        if (right[0] in call.answers) == call.label.startswith(WRONG_ON_PURPOSE):
+            yield '%s: stated%s, by noise.py %s' % (call.label, call.stated, right[0])
+
+
+def printed(text):
+    """what the program prints for a script, with every call, when each answer that is not wrong on purpose comes as it is stated"""
+    out, calls, different, replay = [], 0, 0, replayed(text)
+    for line in text.splitlines():
+        call = parsed(line)
+        if call is None:
+            out.append(line)
+            continue
+        _, right = next(replay)
+        wrong = call.label.startswith(WRONG_ON_PURPOSE)
+        out.append('%s: %s, should be%s' % (call.label, right[0] if wrong else call.answers[0], call.stated))
+        calls += 1
+        different += wrong
+    return '\n'.join(out + ['%d calls, %d different' % (calls, different)]) + '\n'
