@@ -24,7 +24,7 @@ use Rattle.ledger.specs.Day.{periodOf, withPeriod, Answered}
 use Rattle.ledger.specs.Offer.{Offering, Accepted, offered, admitted, dayChecks, usedUp, withEvent, entered, raised}
 use Rattle.ledger.specs.declared.Period.{Period}
 use Rattle.ledger.specs.declared.Day.{Day}
-use Rattle.accuracy.specs.Tally.{offering, Held, Tally, tallied, joined, periodIn, counted, sameAs, tallyChecks}
+use Rattle.accuracy.specs.Tally.{offering, Held, Tally, tallied, joined, periodIn, countRaised, sameAs, tallyChecks}
 use Rattle.accuracy.specs.Demand.{OfferDemanded}
 use Rattle.accuracy.specs.Laws.{Apart, periodEnergy}
 use Rattle.accuracy.proofs.Tests.{cond-both, first-limit, reached-equal}
@@ -58,7 +58,7 @@ HasRoom t class p = getD (t .count p) class 0 < getD (t .book p) class 0
 -- the tally with one stretch more, of a class
 abbrev withStretch : Tally → ℕ → Held → Tally
 withStretch t class h =
-    record { book = t .book; end = h .to; count = counted (t .count) (h .daytime) class; stretches = h ∷ t .stretches }
+    record { book = t .book; end = h .to; count = countRaised (t .count) (h .daytime) class; stretches = h ∷ t .stretches }
 
 module _ {t : Tally} (b : Bounded t) (class : ℕ) (booked : class < length (t .book true)) where
   in-counts : (p : Bool) → class < length (t .count p)
@@ -95,13 +95,13 @@ module _ {t : Tally} (b : Bounded t) (class : ℕ) (booked : class < length (t .
   event-same false from to levels e = day-same (without-event true) (with-event false (energies levels)) (rw e)
 
   -- a count is raised, and stays within the book where it has room there
-  counted-length : (p q : Bool) → length (counted (t .count) p class q) ≡ length (t .book true)
+  counted-length : (p q : Bool) → length (countRaised (t .count) p class q) ≡ length (t .book true)
   counted-length p q = cond-both (λ l. length l ≡ length (t .book true)) (sameAs p q) (length-set (t .count q) class _ ∙ b .counted q) (b .counted q)
 
   raised-count : (p : Bool) → HasRoom t class p → (k : ℕ) → getD (set (t .count p) class (getD (t .count p) class 0 + 1)) k 0 ≤ getD (t .book p) k 0
   raised-count p g = raised-within (t .count p) (t .book p) class (in-counts p) g (b .counts p)
 
-  counted-within : (p : Bool) → HasRoom t class p → (q : Bool) (k : ℕ) → getD (counted (t .count) p class q) k 0 ≤ getD (t .book q) k 0
+  counted-within : (p : Bool) → HasRoom t class p → (q : Bool) (k : ℕ) → getD (countRaised (t .count) p class q) k 0 ≤ getD (t .book q) k 0
   counted-within true g true = raised-count true g
   counted-within true g false = b .counts false
   counted-within false g true = b .counts true

@@ -66,8 +66,8 @@ sameAs true b = b
 sameAs false true = false
 sameAs false false = true
 
-abbrev pub counted : (Bool → List ℕ) → Bool → ℕ → Bool → List ℕ
-counted count p class q = cond (sameAs p q) (set (count q) class (getD (count q) class 0 + 1)) (count q)
+abbrev pub countRaised : (Bool → List ℕ) → Bool → ℕ → Bool → List ℕ
+countRaised count p class q = cond (sameAs p q) (set (count q) class (getD (count q) class 0 + 1)) (count q)
 
 -- an offer that no rule refuses: the end, the count and the list of stretches change
 abbrev pub joined : Tally → Offering → Tally
@@ -76,7 +76,7 @@ joined t o =
     record {
       book = t .book;
       end = r .start .0 + stretchEnd (o .samples);
-      count = counted (t .count) (periodIn o) (r .class);
+      count = countRaised (t .count) (periodIn o) (r .class);
       stretches =
           record {
             daytime = periodIn o;

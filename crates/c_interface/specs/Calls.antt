@@ -74,13 +74,13 @@ abbrev pub readLeaves : ℕ → List ℕ → ℕ → Left ℕ
 readLeaves dayRecord records place =
     leaves dayRecord (outcome (firstOf (placeRule (length records) place ∷ [])) (getD records place 0)) (λ found. found)
 
-abbrev pub rewriteRules : List ℕ → ℕ → ℕ → List Rule
-rewriteRules records place new =
+abbrev pub recordRewriteRules : List ℕ → ℕ → ℕ → List Rule
+recordRewriteRules records place new =
     placeRule (length records) place ∷ record { number = 14; refuses = isTooHigh (recordLevel new) } ∷ []
 
 abbrev pub rewriteLeaves : List ℕ → ℕ → ℕ → Left (List ℕ)
 rewriteLeaves records place new =
-    leaves records (outcome (firstOf (rewriteRules records place new)) (set records place new)) (λ next. next)
+    leaves records (outcome (firstOf (recordRewriteRules records place new)) (set records place new)) (λ next. next)
 
 -- a verdict: what it names and the margin
 pub record VerdictLent : Type 0 where

@@ -14,7 +14,7 @@ use Rattle.ledger.specs.Offer.{offeringOf}
 use Rattle.ledger.specs.declared.Day.{Day}
 use Rattle.day_words.specs.Words.{DayFits}
 use Rattle.day_words.proofs.Reached.{opened-fits, offered-fits}
-use Rattle.day_file.specs.Records.{bookOf, bookBytes, dayFlights, nightFlights, Header, headerRules, headerAt, EventFields, eventOf, samplesOf}
+use Rattle.day_file.specs.Records.{bookSection, bookBytes, dayFlights, nightFlights, Header, headerRules, headerAt, EventFields, eventRecord, recordSamples}
 use Rattle.day_file.specs.File.{bookOpened, startOf, takenOf}
 use Rattle.steps.specs.declared.Reader.{Reader}
 use Rattle.steps.specs.declared.Stage.{Stage}
@@ -33,29 +33,29 @@ fresh-fits = record { day = no-day-fits; count = omega arith; done = omega arith
 
 -- the day that stands before the events, and the day after an event
 start-fits : (window : List ℕ) → DayFits (startOf window .day)
-start-fits window = go (bookOf window) refl
+start-fits window = go (bookSection window) refl
   where
-    go : (o : Outcome ℕ) → bookOf window ≡ o → DayFits (startOf window .day)
+    go : (o : Outcome ℕ) → bookSection window ≡ o → DayFits (startOf window .day)
     go (refused n) e = rw e no-day-fits
     go (given classes) e = rw e (opened-fits (dayFlights window classes) (nightFlights window classes))
 
 event-fits : (d : Day) (window : List ℕ) → DayFits d → DayFits (takenOf d window .day)
-event-fits d window f = go (eventOf window) refl
+event-fits d window f = go (eventRecord window) refl
   where
-    go : (o : Outcome EventFields) → eventOf window ≡ o → DayFits (takenOf d window .day)
+    go : (o : Outcome EventFields) → eventRecord window ≡ o → DayFits (takenOf d window .day)
     go (refused n) e = rw e f
-    go (given x) e = rw e (offered-fits d (offeringOf (x .recording) (samplesOf window (x .count))) f)
+    go (given x) e = rw e (offered-fits d (offeringOf (x .recording) (recordSamples window (x .count))) f)
 
 -- the number of events is in two bytes
 few-events : (window : List ℕ) {h : Header} → Bytes window → startOf window .answer ≡ given h → h .events < 65536
-few-events window {h} bytes e = go (bookOf window) refl
+few-events window {h} bytes e = go (bookSection window) refl
   where
     at-header : (at : ℕ) → headerAt window at ≡ given h → h .events < 65536
     at-header at t =
         let g = given-value (firstOf (headerRules window at)) t in
         rw (← g .1) (omega (arith, bytes (at + 5), bytes (at + 5 + 1)))
 
-    go : (o : Outcome ℕ) → bookOf window ≡ o → h .events < 65536
+    go : (o : Outcome ℕ) → bookSection window ≡ o → h .events < 65536
     go (refused n) t =
         let wrong = rw t at e in
         let z : _≡_ {A = ℕ} 0 1 = cc in

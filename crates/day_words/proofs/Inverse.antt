@@ -10,7 +10,7 @@ use Rattle.quantity.specs.declared.HighestLevel.{HighestLevel}
 use Rattle.quantity.specs.declared.HighestLevel.the-variants as highests
 use Rattle.ledger.specs.declared.Period.{Period}
 use Rattle.ledger.specs.declared.Day.{Day}
-use Rattle.day_words.specs.Words.{periodWords, highestWords, restWords, dayWords, wordsAt, narrowed, periodFrom, highestFrom, dayFrom, Narrow, PeriodFits, DayFits, InverseLaw}
+use Rattle.day_words.specs.Words.{periodWords, highestWords, restWords, dayWords, wordsAt, narrowed, periodFrom, highestMarked, dayFrom, Narrow, PeriodFits, DayFits, InverseLaw}
 
 -- numbers stand at a place of some words, with others behind them
 abbrev Stands : (words : List ℕ) (at : ℕ) (numbers rest : List ℕ) → Type 0
@@ -53,7 +53,7 @@ module _ (words : List ℕ) (at : ℕ) (p : Period) (f : PeriodFits p) (rest : L
   after = behind words (at + 32) (p .sum) rest sum-last (at + 36) (omega (arith, f .sum))
 
 -- so is a highest level
-highest : (h : HighestLevel) (rest : List ℕ) → (let l = highestWords h ++ rest in highestFrom (getD l 0 0) (getD l 1 0)) ≡ h
+highest : (h : HighestLevel) (rest : List ℕ) → (let l = highestWords h ++ rest in highestMarked (getD l 0 0) (getD l 1 0)) ≡ h
 highest (highests.At l) rest = refl
 highest highests.Nothing rest = refl
 

@@ -54,8 +54,8 @@ abbrev pub periodFrom : List ℕ → ℕ → Period
 periodFrom words at =
     record { booked = countsAt words at 16; accepted = countsAt words (at + 16) 16; sum = wordsAt words (at + 32) 4 }
 
-abbrev pub highestFrom : (mark level : ℕ) → HighestLevel
-highestFrom mark level = cond (eqb mark 0) highests.Nothing (highests.At (record { 0 = level }))
+abbrev pub highestMarked : (mark level : ℕ) → HighestLevel
+highestMarked mark level = cond (eqb mark 0) highests.Nothing (highests.At (record { 0 = level }))
 
 unfoldable pub dayFrom : List ℕ → Day
 dayFrom words =
@@ -64,7 +64,7 @@ dayFrom words =
       daytime = periodFrom words 0;
       night = periodFrom words 36;
       end = timeAt (getD words 73 0);
-      highest = highestFrom (getD words 74 0) (getD words 75 0);
+      highest = highestMarked (getD words 74 0) (getD words 75 0);
     }
 
 -- a day whose lists have the places of their arrays, whose classes fit into 8 bits and whose counts into 16, as every day has that a program holds

@@ -3,7 +3,7 @@
 ghost use mathlib.Core.Path.{_≡_};
 ghost use Prim.Native.Nat.{_+_, _%_, _≤_};
 ghost use lib.ListN.{length};
-ghost use Rattle.day_words.specs.Words.{wordCount, periodWords, restWords, dayWords, Put, wordsAt, countsAt, periodFrom, highestFrom, dayFrom};
+ghost use Rattle.day_words.specs.Words.{wordCount, periodWords, restWords, dayWords, Put, wordsAt, countsAt, periodFrom, highestMarked, dayFrom};
 use ledger::Day;
 use ledger::Period;
 use quantity::HighestLevel;
@@ -143,7 +143,7 @@ fn period_at(words: &[u32], at: usize) -> Period
 }
 
 fn highest_from(mark: u32, level: u32) -> HighestLevel
-    ensures { λ r. ⌜ r ≡ highestFrom mark level ⌝ }
+    ensures { λ r. ⌜ r ≡ highestMarked mark level ⌝ }
 {
     if mark == 0 {
         return HighestLevel::Nothing;

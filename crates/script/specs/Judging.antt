@@ -28,6 +28,6 @@ abbrev pub isRight : (came should : List ℕ) → Bool
 isRight came should = isOneOf came (upTo 44 should)
 
 -- one call more, and one difference more where its answer is not right
-abbrev pub counted : Progress → (came should : List ℕ) → Progress
-counted p came should =
+abbrev pub withCall : Progress → (came should : List ℕ) → Progress
+withCall p came should =
     record { calls = (p .calls + 1) % 4294967296; different = (p .different + cond (isRight came should) 0 1) % 4294967296 }

@@ -9,7 +9,7 @@ ghost use mathlib.Core.Path.{_≡_};
 ghost use mathlib.Core.Bool.{cond};
 ghost use Prim.Native.Nat.{_≤_};
 ghost use lib.ListN.{length};
-ghost use Rattle.script.specs.Judging.{isOneOf, isRight, counted};
+ghost use Rattle.script.specs.Judging.{isOneOf, isRight, withCall};
 
 mod answers;
 mod calls;
@@ -83,7 +83,7 @@ fn differences(right: bool) -> u32
 
 // One call more, and one difference more where what came is not right.
 fn with_call(progress: Progress, came: &[u8], should: &[u8]) -> Progress
-    ensures { λ r. ⌜ r ≡ counted progress (now (came .entry)) (now (should .entry)) ⌝ }
+    ensures { λ r. ⌜ r ≡ withCall progress (now (came .entry)) (now (should .entry)) ⌝ }
 {
     Progress {
         calls: std::num::wrapping_add_u32(progress.calls, 1),
