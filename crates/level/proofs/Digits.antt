@@ -7,9 +7,9 @@ use native.Mathlib.Omega.{arith}
 use lib.Dec.{lit<, lit≤}
 use Rattle.quantity.specs.Answers.{level, below-scale}
 use Rattle.power.specs.Power.{m, e, G}
-use Rattle.power.proofs.Scale.{e-zero, e-at, m-zero, m-thousand}
+use Rattle.power.proofs.Scale.{e-zero, e-at, m-zero, m-thousand, digit-reached, digit-passed}
 use Rattle.level.specs.Level.{levelOf}
-use Rattle.level.specs.Leading.{Leads, Found}
+use Rattle.level.specs.Leading.{Leads, Between, Found}
 use Rattle.level.proofs.Answer.{answered}
 
 positive : (t : ℕ) → 0 < 10 ^ t
@@ -52,15 +52,20 @@ module _ {first start digits omitted : ℕ} (p : Shortening first start digits o
         room = div-lt-iff-lt-mul (lit< tt) .1 (rw (k, pow-suc) at p.room);
       }
 
--- the halving search: the place lies from low on and before high
-pub record Between (digits low high : ℕ) : Type 0 where
-  pub order : low < high
-  pub end : high ≤ 1000
-  pub reached : m low ≤ digits
-  pub missed : digits < m high
-
+-- the halving search begins with the whole table, or with the mantissas whose first digit is at least d and less than t
 pub between-starts : {digits : ℕ} → G ≤ digits → digits < 10 * G → Between digits 0 1000
 between-starts l h = record { order = lit< tt; end = lit≤ tt; reached = rw m-zero l; missed = rw m-thousand h }
+
+pub between-digits : {digits low high : ℕ} (d t : ℕ)
+    → low < high
+    → high ≤ 1000
+    → 10 ^ low ≤ d ^ 1000
+    → t ^ 1000 ≤ 10 ^ high
+    → d * G ≤ digits
+    → digits < t * G
+    → Between digits low high
+between-digits {digits} {low} {high} d t o e l h a b =
+    record { order = o; end = e; reached = omega (arith, digit-reached d low l); missed = omega (arith, digit-passed t high h) }
 
 pub between-ends : {digits low high : ℕ} → Between digits low high → high ≤ low + 1 → Found digits low
 between-ends {digits} {low} {high} p h =

@@ -1,13 +1,17 @@
 // The level of a sum over a divisor: the quotient is cut to its ten leading digits, and these are looked up among the mantissas.
 ghost use mathlib.Core.Path.{_≡_};
 ghost use Prim.Native.Nat.{ℕ, _+_, _*_, _/_, _≤_, _<_};
+ghost use lib.ListN.{length};
 ghost use Rattle.quantity.specs.Answers.{reading};
-ghost use Rattle.power.specs.Power.{G, IsTable};
+ghost use Rattle.power.specs.Power.{G, IsRow, IsTable};
 ghost use Rattle.limbs.specs.Value.{value};
 ghost use Rattle.level.specs.Level.{levelOf};
-ghost use Rattle.level.specs.Leading.{Leads, Found, lowered};
+ghost use Rattle.level.specs.Leading.{Leads, Between, Found, lowered};
 use quantity::Level;
 use quantity::Reading;
+
+// The first mantissa, m(0).
+const UNIT: u64 = 1000000000;
 
 // A number cut to its leading digits, and the number of decimal digits that were omitted.
 pub struct Leading {
@@ -15,22 +19,48 @@ pub struct Leading {
     pub omitted: u32,
 }
 
-// The place of the largest mantissa that is at most the digits. The range from low to high halves with each turn.
-fn mantissa_place(table: &[u64; 1000], digits: u64) -> u32
-    requires { ⌜ IsTable (now table) × (G ≤ digits) × (digits < 10 * G) ⌝ }
+// The place of the largest mantissa that is at most the digits, which lies from first on and before end. The row has the places from `from` on. The range
+// halves with each turn.
+fn place_in(row: &[u64], from: u32, first: u32, end: u32, digits: u64) -> u32
+    requires { ⌜ IsRow from (now row) × Between digits first end × (from ≤ first + 1) × (end ≤ from + length (now row)) ⌝ }
     ensures { λ r. ⌜ Found digits r ⌝ }
 {
-    let mut low: u32 = 0;
-    let mut high: u32 = 1000;
+    let mut low = first;
+    let mut high = end;
     while low + 1 < high {
         let middle = (low + high) / 2;
-        if power::mantissa_in(table, middle as usize) <= digits {
+        if row[(middle - from) as usize] <= digits {
             low = middle;
         } else {
             high = middle;
         }
     }
     low
+}
+
+// That place in the whole table.
+fn place_in_table(table: &[u64; 1000], digits: u64) -> u32
+    requires { ⌜ IsTable (now table) × (G ≤ digits) × (digits < 10 * G) ⌝ }
+    ensures { λ r. ⌜ Found digits r ⌝ }
+{
+    place_in(table, 0, 0, 1000, digits)
+}
+
+// That place in the row to which the first digit leads: no other row is made.
+fn place_in_row(digits: u64) -> u32
+    requires { ⌜ (G ≤ digits) × (digits < 10 * G) ⌝ }
+    ensures { λ r. ⌜ Found digits r ⌝ }
+{
+    if digits < 2000000000 {
+        let row = power::row_from_1();
+        return place_in(&row, 0, 0, 302, digits);
+    }
+    if digits < 4000000000 {
+        let row = power::row_from_2();
+        return place_in(&row, 302, 301, 603, digits);
+    }
+    let row = power::row_from_4();
+    place_in(&row, 603, 602, 1000, digits)
 }
 
 // The same number, cut to ten digits at the most.
@@ -48,7 +78,7 @@ fn ten_digits(number: Leading) -> Leading
     Leading { digits, omitted }
 }
 
-// The level of a number of which the leading digits are given.
+// The level of a number of which the leading digits are given, with the table that the caller has made.
 pub fn level_of_leading(table: &[u64; 1000], number: Leading) -> Reading
     requires { ⌜ IsTable (now table) × (number .omitted ≤ 100) ⌝ }
     ensures { λ r. ⌜ ((n : ℕ) → Leads n (number .digits) (number .omitted) → reading r ≡ levelOf 0 1 n) ⌝ }
@@ -56,10 +86,24 @@ pub fn level_of_leading(table: &[u64; 1000], number: Leading) -> Reading
     let short = ten_digits(number);
     let digits = short.digits;
     let omitted = short.omitted;
-    if digits < 1000000000 {
+    if digits < UNIT {
         return Reading::BelowScale;
     }
-    Reading::At(Level(1000 * omitted + mantissa_place(table, digits)))
+    Reading::At(Level(1000 * omitted + place_in_table(table, digits)))
+}
+
+// The same without a table.
+fn level_by_row(number: Leading) -> Reading
+    requires { ⌜ number .omitted ≤ 100 ⌝ }
+    ensures { λ r. ⌜ ((n : ℕ) → Leads n (number .digits) (number .omitted) → reading r ≡ levelOf 0 1 n) ⌝ }
+{
+    let short = ten_digits(number);
+    let digits = short.digits;
+    let omitted = short.omitted;
+    if digits < UNIT {
+        return Reading::BelowScale;
+    }
+    Reading::At(Level(1000 * omitted + place_in_row(digits)))
 }
 
 // A level less an offset, or below scale.
@@ -99,8 +143,7 @@ pub fn level_over(sum: [u32; 6], divisor: u32, offset: u32) -> Reading
     requires { ⌜ 0 < divisor ⌝ }
     ensures { λ r. ⌜ reading r ≡ levelOf offset divisor (value sum) ⌝ }
 {
-    let table = power::mantissas();
     let quotient = leading_quotient(sum, divisor);
-    let answer = level_of_leading(&table, quotient);
+    let answer = level_by_row(quotient);
     lowered_by(answer, offset)
 }

@@ -1,12 +1,13 @@
 -- How near e, which has ten digits, and X, which has K places, come to the power of ten that both stand for; and that e rises.
 use mathlib.Core.Path.{_≡_, sym}
 use Prim.Native.Nat.{ℕ, zero, suc, _+_, _*_, _/_, _%_, _^_, _≤_, _<_}
-use native.Mathlib.Nat.{one-le-pow, mul-le-mul-right, pow-suc, div-add-mod, le-refl}
+use native.Mathlib.Nat.{one-le-pow, mul-comm, mul-le-mul-left, mul-le-mul-right, pow-suc, pow-lt-pow-left, div-add-mod, le-refl, le-trans, lt-of-le-of-lt}
 use native.Mathlib.Decide.{le-ind, decLt}
 use native.Mathlib.Numerals.{add-one}
 use native.Mathlib.Omega.{arith}
 use lib.Dec.{lit<, lit≤}
 use Rattle.power.specs.Power.{X, m, e, G}
+use Rattle.power.proofs.Arithmetic.{mul-pow, lt-of-pow}
 use Rattle.power.proofs.Search.{root-only}
 use Rattle.power.proofs.Cut.{Cut, over, cross, join, up, X-cut}
 
@@ -89,3 +90,17 @@ e-at q f h = elim (decLt f 1000) [ yes u ↦ inside u | no v ↦ ends (omega ari
         let r : (1000 * q + f) % 1000 ≡ 0 = omega arith in
         let d : (1000 * q + f) / 1000 ≡ suc q = omega arith in
         rw (r, d, v, m-zero, m-thousand, pow-suc) (omega arith)
+
+-- where d ^ 1000 has b digits, the mantissas from place b on begin with d or a higher digit, and those before do not
+pub digit-reached : (d b : ℕ) → 10 ^ b ≤ d ^ 1000 → m b ≤ d * G
+digit-reached d b h =
+    let low : m b ^ 1000 ≤ (d * G) ^ 1000 =
+    rw (mul-pow d G 1000) (le-trans (X-cut 9 b .low) (rw (mul-comm (d ^ 1000) (G ^ 1000)) (mul-le-mul-left (G ^ 1000) h))) in
+    let next : (d * G) ^ 1000 < (d * G + 1) ^ 1000 = pow-lt-pow-left (omega arith) (omega arith) in
+    omega (arith, lt-of-pow 1000 (lt-of-le-of-lt low next))
+
+pub digit-passed : (d b : ℕ) → d ^ 1000 ≤ 10 ^ b → d * G ≤ m b
+digit-passed d b h =
+    let high : (d * G) ^ 1000 < (m b + 1) ^ 1000 =
+    rw (mul-pow d G 1000) (lt-of-le-of-lt (rw (mul-comm (d ^ 1000) (G ^ 1000)) (mul-le-mul-left (G ^ 1000) h)) (X-cut 9 b .high)) in
+    omega (arith, lt-of-pow 1000 high)

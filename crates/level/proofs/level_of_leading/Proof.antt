@@ -8,7 +8,7 @@ returns : tie.Need-returns
 returns c = λ n l. digits-below (c .if1 .taken) (c .before .ten-digits .ensures .0 n l)
 
 returns-2 : tie.Need-returns-2
-returns-2 c = λ n l. digits-level (c .mantissa-place .ensures) (c .before .before .ten-digits .ensures .0 n l)
+returns-2 c = λ n l. digits-level (c .place-in-table .ensures) (c .before .before .ten-digits .ensures .0 n l)
 
 pub level-of-leading-spec : {M : Type 1} → statement M
 level-of-leading-spec =

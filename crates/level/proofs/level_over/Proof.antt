@@ -8,11 +8,11 @@ use Rattle.level.proofs.level_over.Tie as tie
 
 returns : tie.Need-returns
 returns c =
-    let some = c .before .before .before .before .before .pre in
-    let level = c .before .level-of-leading .ensures _ (c .before .before .before .leading-quotient .ensures .0) in
+    let some = c .before .before .before .pre in
+    let level = c .before .level-by-row .ensures _ (c .before .before .leading-quotient .ensures .0) in
     c .lowered-by .ensures ∙ ap (lowered _) (level ∙ divided _ _ some) ∙ offset-taken _ _ _ some
 
 pub level-over-spec : {M : Type 1} → statement M
 level-over-spec =
     tie.close
-    (tie.spec (λ c κs. search needs) (λ c κs. search needs) (λ c κs. search needs) (λ c κs. search needs) returns)
+    (tie.spec (λ c κs. search needs) (λ c κs. search needs) (λ c κs. search needs) returns)
