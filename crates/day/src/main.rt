@@ -7,7 +7,7 @@
 ghost use mathlib.Core.Path.{_≡_};
 ghost use Prim.Native.Nat.{_≤_};
 ghost use lib.ListN.{length};
-ghost use Rattle.power.specs.Power.{IsTable};
+ghost use Rattle.power.specs.Table.{IsTable};
 ghost use Rattle.steps.specs.Machine.{isDone, longestNeed};
 ghost use Rattle.day.specs.Turn.{Turned};
 use libc::STDOUT_FILENO;

@@ -6,7 +6,7 @@ ghost use lib.Dec.{eqb};
 ghost use lib.ListN.{length};
 ghost use Rattle.quantity.specs.Answers.{reading, checkNumber};
 ghost use Rattle.quantity.specs.Limits.{highestDayLevel};
-ghost use Rattle.power.specs.Power.{IsTable};
+ghost use Rattle.power.specs.Table.{IsTable};
 ghost use Rattle.decades.specs.Sums.{withPower, Readable};
 ghost use Rattle.mean.specs.Mean.{isTooHigh, isCountWrong, meanOutcome, meanOf, weekMeanOf, yearMeanOf};
 ghost use Rattle.mean.specs.Records.{readings, readOutcome, recordAt, rewriteNumber, rewritten};

@@ -8,7 +8,8 @@ use native.Mathlib.Omega.{arith}
 use lib.Dec.{T, leb, ltb, leb→le, ltb→lt, lit<}
 use lib.ListN.{length, getD, set, take, drop, length-set, length-drop}
 use lib.Seq.{getD-take, getD-drop, getD-set-same, getD-set-other, length-take-le}
-use Rattle.power.specs.Power.{X, m, IsRow, HoldsTo, IsTable}
+use Rattle.power.specs.Power.{X, m}
+use Rattle.power.specs.Table.{IsRow, HoldsTo, IsTable}
 use Rattle.power.proofs.Search.{root-only}
 
 both : (a b : Bool) → T (a && b) → T a × T b

@@ -2,7 +2,8 @@
 ghost use mathlib.Core.Path.{_≡_};
 ghost use Prim.Native.Nat.{_+_, _*_, _≤_, _<_};
 ghost use lib.ListN.{length};
-ghost use Rattle.power.specs.Power.{m, G, IsRow, HoldsTo, IsTable};
+ghost use Rattle.power.specs.Power.{m, G};
+ghost use Rattle.power.specs.Table.{IsRow, HoldsTo, IsTable};
 
 pub mod rows;
 

@@ -53,7 +53,7 @@ use denote.Triple.Walked.{says, needs, Stays, stay-none, stay-none-slice, walkOf
 use denote.Exit.{yes}
 use Rattle.quantity.specs.declared.DayAnswer.{DayAnswer}
 use Rattle.quantity.proofs.DayAnswer as T
-use Rattle.power.specs.Power.{IsTable}
+use Rattle.power.specs.Table.{IsTable}
 use Rattle.decades.specs.Sums.{Readable}
 use Rattle.mean.specs.declared.MeanAnswer.{MeanAnswer}
 use Rattle.mean.specs.declared.ReadAnswer.{ReadAnswer}

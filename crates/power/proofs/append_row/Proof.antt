@@ -4,7 +4,7 @@ use Prim.Native.Nat.{ℕ, _+_, _-_, _≤_}
 use native.Mathlib.Omega.{arith}
 use borrow.Author.Needs.{needs}
 use lib.ListN.{length}
-use Rattle.power.specs.Power.{HoldsTo}
+use Rattle.power.specs.Table.{HoldsTo}
 use Rattle.power.proofs.Table.{holds-more}
 use Rattle.power.proofs.append_row.Statement.{statement}
 use Rattle.power.proofs.append_row.Tie as tie

@@ -4,7 +4,7 @@ use mathlib.Core.List.{List}
 use Prim.Native.Nat.{ℕ}
 use lib.Dec.{lit≤}
 use lib.ListN.{take, drop}
-use Rattle.power.specs.Power.{IsRow}
+use Rattle.power.specs.Table.{IsRow}
 use Rattle.power.proofs.Table.{right, row, rows}
 use Rattle.power.proofs.row_from_4.Statement.{statement}
 use Rattle.power.proofs.row_from_4.Tie as tie
