@@ -3,7 +3,7 @@
 ghost use mathlib.Core.Path.{_≡_};
 ghost use Prim.Native.Nat.{_+_, _≤_};
 ghost use lib.ListN.{length, take};
-ghost use Rattle.day_words.specs.Words.{Put, wordCount, dayWords, dayFrom};
+ghost use Rattle.day_words.specs.Words.{wordCount, dayWords, dayFrom};
 ghost use Rattle.ledger.specs.Offer.{offerOutcome};
 ghost use Rattle.closing.specs.Close.{closeOutcome};
 ghost use Rattle.steps.specs.Machine.{freshReader, comingReading};
@@ -50,19 +50,6 @@ fn stage_from(n: u32) -> Stage
     Stage::Ended
 }
 
-// Puts numbers behind the words that are there, and gives the place behind the last.
-fn put(words: &mut [u32], at: usize, numbers: &[u32]) -> usize
-    requires { ⌜ at + length (now numbers) ≤ length (now words) ⌝ }
-    ensures { λ r. ⌜ Put (now (words .entry)) at (now (numbers .entry)) (now (words .exit)) r ⌝ }
-{
-    let mut i = 0;
-    while i < numbers.len() {
-        words[at + i] = numbers[i];
-        i += 1;
-    }
-    at + i
-}
-
 // The sixteen words behind those of the day.
 fn place_words(reader: Reader) -> [u32; 16]
     ensures { λ r. ⌜ r ≡ placeWords reader ⌝ }
@@ -104,8 +91,8 @@ fn encode(reader: Reader, words: &mut [u32; 336])
     let day = reader.day;
     let first = words_of(day);
     let place = place_words(reader);
-    let behind = put(words, 0, &first);
-    put(words, behind, &place);
+    let behind = runs::put_words(words, 0, &first);
+    runs::put_words(words, behind, &place);
 }
 
 // The day that the first words stand for.
@@ -114,7 +101,7 @@ fn day_of(words: &[u32]) -> Day
     ensures { λ r. ⌜ r ≡ dayFrom (take wordCount (now (words .entry))) ⌝ }
 {
     let mut first = [0u32; 320];
-    put(&mut first, 0, &words[..STAGE]);
+    runs::put_words(&mut first, 0, &words[..STAGE]);
     day_words::decode(&first)
 }
 

@@ -1,4 +1,4 @@
--- Numbers that are put one behind the other; counts that are read one by one.
+-- The words of a day are put; counts are read one by one.
 use mathlib.Core.Path.{_≡_, refl, sym, ap, _∙_}
 use mathlib.Core.List.{List, [], _∷_, _++_, append-assoc, map-append}
 use Prim.Native.Nat.{ℕ, suc, _+_, _%_, _≤_, _<_}
@@ -6,52 +6,16 @@ use native.Mathlib.Numerals.{add-one}
 use native.Mathlib.Omega.{arith}
 use lib.ListN.{length, take, drop, set, getD, replicate, take-append-drop, length-append, length-drop, length-set}
 use lib.Seq.{paste, paste-zero, paste-suc, take-paste, drop-paste, take-all, take-suc, take-suc-set, drop-drop, drop-cons, getD-drop}
+use Rattle.runs.specs.Put.{Put}
 use Rattle.ledger.specs.declared.Day.{Day}
-use Rattle.day_words.specs.Words.{wordCount, periodWords, restWords, dayWords, Put, wordsAt, countsAt}
-
--- a loop that puts numbers, at i: those before i are put
-pub record Putting (before : List ℕ) (at : ℕ) (numbers words : List ℕ) (i : ℕ) : Type 0 where
-  pub within : i ≤ length numbers
-  pub as-long : length words ≡ length before
-  pub put : words ≡ paste before at numbers i
-
-pub put-none : (before : List ℕ) (at : ℕ) (numbers : List ℕ) → Putting before at numbers before 0
-put-none before at numbers = record { within = omega arith; as-long = refl; put = paste-zero before at numbers }
-
-module _ {before : List ℕ} {at : ℕ} {numbers words : List ℕ} {i : ℕ} (p : Putting before at numbers words i) (room : at + length numbers ≤ length before) where
-  pub put-more : {x : ℕ} → i < length numbers → x ≡ getD numbers i 0 → Putting before at numbers (set words (at + i) x) (i + 1)
-  put-more h same =
-      record {
-        within = omega arith;
-        as-long = rw length-set (p .as-long);
-        put = rw (p .put, same, add-one i) (paste-suc before at numbers i 0 (omega arith) h);
-      }
-
-  pub put-all : length numbers ≤ i → Put before at numbers words (at + i)
-  put-all h =
-      let all : take i numbers ≡ numbers = take-all i numbers h in
-      record {
-        put = rw (p .put, take-paste before at numbers i (omega arith) (p .within), all);
-        rest = rw (p .put) (drop-paste before at numbers i (omega arith) (p .within));
-        place = omega (arith, p .within);
-      }
-
--- one run behind another is a run
-pub put-both : {before middle after : List ℕ} {at next behind : ℕ} {xs ys : List ℕ}
-    → Put before at xs middle next → Put middle next ys after behind → Put before at (xs ++ ys) after behind
-put-both {before} {middle} {after} {at} {next} {behind} {xs} {ys} p q =
-    record {
-      put = rw (q .put, p .put) (append-assoc (take at before) xs ys);
-      rest = q .rest ∙ rw (q .place, ← drop-drop (length ys) next middle, p .rest) (drop-drop (length ys) next before);
-      place = rw length-append (omega (arith, p .place, q .place));
-    }
+use Rattle.day_words.specs.Words.{wordCount, periodWords, restWords, dayWords, wordsAt, countsAt}
 
 -- the words of a day: what is used is put at the beginning of words that are 0
 pub put-day : (day : Day) {after : List ℕ} {next : ℕ}
     → Put (replicate wordCount 0) 0 (periodWords (day .daytime) ++ (periodWords (day .night) ++ restWords day)) after next → next ≡ 76 → after ≡ dayWords day
 unfolding dayWords
 put-day day {after} {next} p e =
-    sym (take-append-drop next after) ∙ rw (p .put, p .rest, e) (simp append-assoc)
+    p .run ∙ rw e (simp append-assoc)
 
 -- a loop that reads counts, at i: those before i are read
 pub record Reading (words : List ℕ) (at : ℕ) (counts : List ℕ) (i : ℕ) : Type 0 where

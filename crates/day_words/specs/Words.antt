@@ -33,12 +33,6 @@ restWords d = d .classes ∷ d .end .0 ∷ highestWords (d .highest)
 unfoldable pub dayWords : Day → List ℕ
 dayWords d = periodWords (d .daytime) ++ (periodWords (d .night) ++ (restWords d ++ replicate 244 0))
 
--- numbers are put behind the words that are there, and the words behind them stay as they are
-pub record Put (before : List ℕ) (at : ℕ) (numbers after : List ℕ) (next : ℕ) : Type 0 where
-  pub put : take next after ≡ take at before ++ numbers
-  pub rest : drop next after ≡ drop next before
-  pub place : next ≡ at + length numbers
-
 -- words from a place on; counts from a place on, each word modulo 2^16
 abbrev pub wordsAt : (words : List ℕ) (at count : ℕ) → List ℕ
 wordsAt words at count = take count (drop at words)

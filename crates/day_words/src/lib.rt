@@ -3,7 +3,8 @@
 ghost use mathlib.Core.Path.{_≡_};
 ghost use Prim.Native.Nat.{_+_, _%_, _≤_};
 ghost use lib.ListN.{length};
-ghost use Rattle.day_words.specs.Words.{wordCount, periodWords, restWords, dayWords, Put, wordsAt, countsAt, periodFrom, highestMarked, dayFrom};
+ghost use Rattle.runs.specs.Put.{Put};
+ghost use Rattle.day_words.specs.Words.{wordCount, periodWords, restWords, dayWords, wordsAt, countsAt, periodFrom, highestMarked, dayFrom};
 use ledger::Day;
 use ledger::Period;
 use quantity::HighestLevel;
@@ -30,38 +31,6 @@ const HIGHEST_MARK: usize = 74;
 
 const HIGHEST: usize = 75;
 
-fn wide(count: u16) -> u32
-    ensures { λ r. ⌜ r ≡ count ⌝ }
-{
-    count as u32
-}
-
-// Puts counts behind the words that are there, one in each word, and gives the place behind the last.
-fn put_counts(words: &mut [u32], at: usize, counts: &[u16]) -> usize
-    requires { ⌜ at + length (now counts) ≤ length (now words) ⌝ }
-    ensures { λ r. ⌜ Put (now (words .entry)) at (now (counts .entry)) (now (words .exit)) r ⌝ }
-{
-    let mut i = 0;
-    while i < counts.len() {
-        words[at + i] = wide(counts[i]);
-        i += 1;
-    }
-    at + i
-}
-
-// The same of words.
-fn put_words(words: &mut [u32], at: usize, numbers: &[u32]) -> usize
-    requires { ⌜ at + length (now numbers) ≤ length (now words) ⌝ }
-    ensures { λ r. ⌜ Put (now (words .entry)) at (now (numbers .entry)) (now (words .exit)) r ⌝ }
-{
-    let mut i = 0;
-    while i < numbers.len() {
-        words[at + i] = numbers[i];
-        i += 1;
-    }
-    at + i
-}
-
 // Puts a period, 36 words.
 fn put_period(words: &mut [u32; 320], at: usize, period: Period) -> usize
     requires { ⌜ at + 36 ≤ wordCount ⌝ }
@@ -71,9 +40,9 @@ fn put_period(words: &mut [u32; 320], at: usize, period: Period) -> usize
     let booked = period.booked;
     let accepted = period.accepted;
     let sum = period.sum;
-    let first = put_counts(words, at, &booked);
-    let second = put_counts(words, first, &accepted);
-    put_words(words, second, &sum)
+    let first = runs::put_counts(words, at, &booked);
+    let second = runs::put_counts(words, first, &accepted);
+    runs::put_words(words, second, &sum)
 }
 
 // The four words behind the periods.
@@ -99,7 +68,7 @@ pub fn encode(day: Day, words: &mut [u32; 320])
     *words = [0u32; 320];
     let first = put_period(words, DAYTIME, daytime);
     let second = put_period(words, first, night);
-    put_words(words, second, &rest);
+    runs::put_words(words, second, &rest);
 }
 
 fn narrow(word: u32) -> u16

@@ -1,3 +1,2 @@
 -- The laws that the proofs of `report` share.
 pub mod Decimal
-pub mod Putting

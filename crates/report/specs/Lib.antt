@@ -1,3 +1,2 @@
--- What the contracts of `report` cite: the lines of the day program, and a text that is put into a lent line.
+-- What the contracts of `report` cite: the lines of the day program.
 pub mod Text
-pub mod Put

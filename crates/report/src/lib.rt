@@ -6,7 +6,7 @@ ghost use Rattle.quantity.specs.Answers.{reading, highestReading, refusalNumber
 ghost use Rattle.ledger.specs.Offer.{offerOutcome};
 ghost use Rattle.closing.specs.Close.{closingReading, closeOutcome};
 ghost use Rattle.io.specs.Counts.{Counts};
-ghost use Rattle.report.specs.Put.{Put};
+ghost use Rattle.runs.specs.Put.{Put};
 ghost use Rattle.report.specs.Text.{
   decimal,
   field,
@@ -28,19 +28,6 @@ use quantity::HighestLevel;
 use quantity::Reading;
 use quantity::Refusal;
 
-// Puts some bytes behind those that a line has, and gives their number with these. What lies further behind stays.
-fn put(line: &mut [u8], at: usize, bytes: &[u8]) -> usize
-    requires { ⌜ at + length (now bytes) ≤ length (now line) ⌝ }
-    ensures { λ r. ⌜ Put (now (line .entry)) at (now (bytes .entry)) (now (line .exit)) r ⌝ }
-{
-    let mut i = 0;
-    while i < bytes.len() {
-        line[at + i] = bytes[i];
-        i += 1;
-    }
-    at + bytes.len()
-}
-
 // Puts a field of one byte.
 fn put_letter(line: &mut [u8; 64], at: usize, letter: u8) -> usize
     requires { ⌜ at + 2 ≤ 64 ⌝ }
@@ -48,7 +35,7 @@ fn put_letter(line: &mut [u8; 64], at: usize, letter: u8) -> usize
     ensures size { λ r. ⌜ r ≤ at + 2 ⌝ }
 {
     let bytes = [b' ', letter];
-    put(line, at, &bytes)
+    runs::put_bytes(line, at, &bytes)
 }
 
 // Puts a number of at most ten digits.
@@ -59,8 +46,8 @@ fn put_number(line: &mut [u8; 64], at: usize, n: u32) -> usize
 {
     let mut digits = [0u8; 20];
     let count = io::decimal(n as u64, &mut digits);
-    let behind = put(line, at, b" ");
-    put(line, behind, &digits[..count])
+    let behind = runs::put_bytes(line, at, b" ");
+    runs::put_bytes(line, behind, &digits[..count])
 }
 
 // Puts a level, or '-' for below scale.
@@ -148,10 +135,10 @@ pub fn event_line(line: &mut [u8; 64], i: u32, answer: OfferAnswer) -> usize
     ensures { λ r. ⌜ Counts r (now (line .exit)) ⌝ }
     ensures { λ r. ⌜ Put (now (line .entry)) 0 (eventLine i (offerOutcome answer)) (now (line .exit)) r ⌝ }
 {
-    let letter = put(line, 0, b"E");
+    let letter = runs::put_bytes(line, 0, b"E");
     let number = put_number(line, letter, i);
     let fields = put_offer(line, number, answer);
-    put(line, fields, b"\n")
+    runs::put_bytes(line, fields, b"\n")
 }
 
 // The line of a day: Ldn, the method, Nd', Nn' and the highest Lmax, or the refusal.
@@ -159,9 +146,9 @@ pub fn day_line(line: &mut [u8; 64], answer: CloseAnswer) -> usize
     ensures { λ r. ⌜ Counts r (now (line .exit)) ⌝ }
     ensures { λ r. ⌜ Put (now (line .entry)) 0 (dayLine (closeOutcome answer)) (now (line .exit)) r ⌝ }
 {
-    let letter = put(line, 0, b"D");
+    let letter = runs::put_bytes(line, 0, b"D");
     let fields = put_close(line, letter, answer);
-    put(line, fields, b"\n")
+    runs::put_bytes(line, fields, b"\n")
 }
 
 // The line of a fault.
@@ -169,7 +156,7 @@ pub fn fault_line(line: &mut [u8; 64], refusal: Refusal) -> usize
     ensures { λ r. ⌜ Counts r (now (line .exit)) ⌝ }
     ensures { λ r. ⌜ Put (now (line .entry)) 0 (faultLine (refusalNumber refusal)) (now (line .exit)) r ⌝ }
 {
-    let letter = put(line, 0, b"F");
+    let letter = runs::put_bytes(line, 0, b"F");
     let number = put_number(line, letter, quantity::refusal_number(refusal) as u32);
-    put(line, number, b"\n")
+    runs::put_bytes(line, number, b"\n")
 }

@@ -1,6 +1,7 @@
 -- `day_words::encode` meets its contract: the two periods and the rest, in words that are 0.
 use native.Mathlib.Omega.{arith}
-use Rattle.day_words.proofs.Putting.{put-both, put-day}
+use Rattle.day_words.proofs.Putting.{put-day}
+use Rattle.runs.proofs.Putting.{then}
 use borrow.Author.Needs.{needs}
 use Rattle.day_words.proofs.encode.Statement.{statement}
 use Rattle.day_words.proofs.encode.Tie as tie
@@ -14,7 +15,7 @@ returns c =
     let first = second .before .before in
     let rest = first .before .before .before in
     let day = rest .before .before .before .args .day in
-    let put = put-both (first .put-period .ensures .0) (put-both (second .put-period2 .ensures .0) (rw (rest .rest-of .ensures) at (c .put-words .ensures))) in
+    let put = then (first .put-period .ensures .0) (then (second .put-period2 .ensures .0) (rw (rest .rest-of .ensures) at (c .put-words .ensures))) in
     put-day day put (omega (arith, slice-aggregate-put-words (c .before)))
 
 pub encode-spec : {M : Type 1} → statement M

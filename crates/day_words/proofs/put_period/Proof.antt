@@ -1,7 +1,7 @@
 -- `day_words::put_period` meets its contract: the flights of the book, the accepted events and the limbs of the sum, one behind the other.
 use native.Mathlib.Omega.{arith}
 use borrow.Author.Needs.{needs}
-use Rattle.day_words.proofs.Putting.{put-both}
+use Rattle.runs.proofs.Putting.{then}
 use Rattle.day_words.proofs.put_period.Statement.{statement}
 use Rattle.day_words.proofs.put_period.Tie as tie
 
@@ -29,7 +29,7 @@ returns : tie.Need-returns
 returns c =
     let second = c .before .before .before in
     let first = second .before .before .before in (
-      put-both (first .put-counts .ensures) (put-both (second .put-counts2 .ensures) (c .put-words .ensures)),
+      then (first .put-counts .ensures) (then (second .put-counts2 .ensures) (c .put-words .ensures)),
       omega (arith, slice-aggregate-put-counts (first .before), slice-aggregate-put-counts-2 (second .before), slice-aggregate-put-words (c .before)),
     )
 

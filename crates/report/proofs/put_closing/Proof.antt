@@ -1,5 +1,5 @@
 -- `report::put_closing` meets its contract: one field behind the other.
-use Rattle.report.proofs.Putting.{then, last-field}
+use Rattle.runs.proofs.Putting.{then, last-field}
 use borrow.Author.Needs.{needs}
 use Rattle.report.proofs.put_closing.Statement.{statement}
 use Rattle.report.proofs.put_closing.Tie as tie

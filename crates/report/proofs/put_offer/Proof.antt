@@ -1,5 +1,5 @@
 -- `report::put_offer` meets its contract: one field behind the other, or the refusal.
-use Rattle.report.proofs.Putting.{then, last-field}
+use Rattle.runs.proofs.Putting.{then, last-field}
 use borrow.Author.Needs.{needs}
 use Rattle.report.proofs.put_offer.Statement.{statement}
 use Rattle.report.proofs.put_offer.Tie as tie

@@ -1,5 +1,5 @@
 -- `report::put_refusal` meets its contract: the number behind the letter.
-use Rattle.report.proofs.Putting.{then, last-field}
+use Rattle.runs.proofs.Putting.{then, last-field}
 use borrow.Author.Needs.{needs}
 use Rattle.report.proofs.put_refusal.Statement.{statement}
 use Rattle.report.proofs.put_refusal.Tie as tie

@@ -1,11 +1,11 @@
--- `c_reader::put` meets its contract: the numbers passed so far are put.
+-- `runs::put_words` meets its contract: the numbers passed so far are put.
 use mathlib.Core.Path.{refl}
 use Prim.Native.Nat.{_-_}
 use lib.ListN.{length}
-use Rattle.day_words.proofs.Putting.{Putting, put-none, put-more, put-all}
+use Rattle.runs.proofs.Putting.{Putting, put-none, put-more, put-all}
 use borrow.Author.Needs.{needs}
-use Rattle.c_reader.proofs.put.Statement.{statement}
-use Rattle.c_reader.proofs.put.Tie as tie
+use Rattle.runs.proofs.put_words.Statement.{statement}
+use Rattle.runs.proofs.put_words.Tie as tie
 
 abbrev Inv-loop : tie.InvT-loop
 Inv-loop words₀ at numbers i₀ words i = Putting words₀ at numbers words i
@@ -25,8 +25,8 @@ same-length c = c .before .loop .inv .as-long
 returns : tie.Need-returns Inv-loop μ-loop
 returns c = put-all (c .before .loop .inv) (c .before .before .pre) (c .loop-test .left)
 
-pub put-spec : {M : Type 1} → statement M
-put-spec =
+pub put-words-spec : {M : Type 1} → statement M
+put-words-spec =
     tie.close
     (tie.spec
     Inv-loop

@@ -1,17 +1,17 @@
--- `day_words::put_words` meets its contract: the numbers passed so far are put.
+-- `runs::put_bytes` meets its contract: the bytes passed so far are put.
 use mathlib.Core.Path.{refl}
 use Prim.Native.Nat.{_-_}
 use lib.ListN.{length}
-use Rattle.day_words.proofs.Putting.{Putting, put-none, put-more, put-all}
+use Rattle.runs.proofs.Putting.{Putting, put-none, put-more, put-all}
 use borrow.Author.Needs.{needs}
-use Rattle.day_words.proofs.put_words.Statement.{statement}
-use Rattle.day_words.proofs.put_words.Tie as tie
+use Rattle.runs.proofs.put_bytes.Statement.{statement}
+use Rattle.runs.proofs.put_bytes.Tie as tie
 
 abbrev Inv-loop : tie.InvT-loop
-Inv-loop words₀ at numbers i₀ words i = Putting words₀ at numbers words i
+Inv-loop line₀ at bytes i₀ line i = Putting line₀ at bytes line i
 
 abbrev μ-loop : tie.MeasureT-loop
-μ-loop words₀ at numbers i₀ words i = length numbers - i
+μ-loop line₀ at bytes i₀ line i = length bytes - i
 
 loop-holds : tie.Need-loop-holds Inv-loop μ-loop
 loop-holds c = put-none _ _ _
@@ -25,15 +25,13 @@ same-length c = c .before .loop .inv .as-long
 returns : tie.Need-returns Inv-loop μ-loop
 returns c = put-all (c .before .loop .inv) (c .before .before .pre) (c .loop-test .left)
 
-pub put-words-spec : {M : Type 1} → statement M
-put-words-spec =
+pub put-bytes-spec : {M : Type 1} → statement M
+put-bytes-spec =
     tie.close
     (tie.spec
     Inv-loop
     μ-loop
     loop-holds
-    (λ c. search needs)
-    (λ c. search needs)
     (λ c. search needs)
     (λ c. search needs)
     (λ c. search needs)

@@ -1,10 +1,10 @@
--- `day_words::put_counts` meets its contract: the numbers passed so far are put.
+-- `runs::put_counts` meets its contract: the numbers passed so far are put.
 use Prim.Native.Nat.{_-_}
 use lib.ListN.{length}
-use Rattle.day_words.proofs.Putting.{Putting, put-none, put-more, put-all}
+use Rattle.runs.proofs.Putting.{Putting, put-none, put-more, put-all}
 use borrow.Author.Needs.{needs}
-use Rattle.day_words.proofs.put_counts.Statement.{statement}
-use Rattle.day_words.proofs.put_counts.Tie as tie
+use Rattle.runs.proofs.put_counts.Statement.{statement}
+use Rattle.runs.proofs.put_counts.Tie as tie
 
 abbrev Inv-loop : tie.InvT-loop
 Inv-loop words₀ at counts i₀ words i = Putting words₀ at counts words i

@@ -1,0 +1,2 @@
+-- The laws of runs that are lent.
+pub mod Putting
