@@ -1,16 +1,15 @@
 -- A closing: the day's counts and sums are the tally's, and its level has both bounds.
 use mathlib.Core.Path.{_≡_, refl, sym, subst}
 use mathlib.Core.Bool.{Bool, true, false, cond}
-use mathlib.Core.List.{[], _∷_}
-use Prim.Native.Nat.{ℕ, zero, suc, _+_, _<_}
+use Prim.Native.Nat.{ℕ, zero, suc, _+_}
 use native.Mathlib.Omega.{arith}
 use borrow.Author.Needs.{needs}
 use borrow.Author.Tests.{not-false}
 use Rattle.quantity.specs.Answers.{highestReading}
 use Rattle.quantity.specs.Rules.{firstOf, Outcome, outcome}
-use Rattle.quantity.proofs.Refusing.{pass, skip, end}
+use Rattle.quantity.proofs.Refusing.{pass}
 use Rattle.level.proofs.Bounds.{accurate}
-use Rattle.method.specs.Method.{Counts, countsOf, methodBy, methodRule}
+use Rattle.method.specs.Method.{Counts, countsOf, methodBy}
 use Rattle.closing.specs.Formula.{formulaBy, levelBy}
 use Rattle.closing.specs.Close.{Closing, closeRules, closed}
 use Rattle.closing.proofs.Answers.{divisor-positive}

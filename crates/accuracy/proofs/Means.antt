@@ -3,7 +3,7 @@ use mathlib.Core.Path.{_≡_, refl, sym, ap, _∙_}
 use mathlib.Core.Bool.{Bool, true, false, cond}
 use mathlib.Core.Logic.{_⊎_, inl, ⊎-elim}
 use mathlib.Core.List.{List, [], _∷_}
-use Prim.Native.Nat.{ℕ, zero, suc, _+_, _*_, _^_, _≤_, _<_, zero-le}
+use Prim.Native.Nat.{ℕ, suc, _+_, _*_, _^_, _≤_, _<_, zero-le}
 use native.Mathlib.Nat.{add-zero, add-assoc, mul-le-mul-right, mul-lt-mul-of-pos-left, lt-of-not-le, not-le-of-lt}
 use native.Mathlib.Omega.{arith}
 use borrow.Author.Tests.{le-ltb, ltb-false}
@@ -18,20 +18,18 @@ use Rattle.quantity.proofs.Tests.{neither}
 use Rattle.power.specs.Power.{X, e, G}
 use Rattle.power.proofs.Scale.{e-mono, e-at, e-step, e-below-next-X, m-zero}
 use Rattle.level.specs.Level.{levelOf}
-use Rattle.level.specs.Accuracy.{weighted, Accurate, Reaches, IsBelow}
+use Rattle.level.specs.Accuracy.{weighted, Reaches, IsBelow}
 use Rattle.level.proofs.Answer.{Answers, answers, said}
 use Rattle.level.proofs.Bounds.{exact-low, reaches}
 use Rattle.event.specs.Clock.{dayTicks}
 use Rattle.ledger.specs.Day.{freshDay}
 use Rattle.ledger.specs.declared.Day.{Day}
-use Rattle.method.specs.Method.{methodOneHolds, methodBy}
-use Rattle.closing.specs.Formula.{formulaOne, formulaBy, levelBy}
+use Rattle.closing.specs.Formula.{formulaOne}
 use Rattle.closing.specs.Close.{Closing, closeRules, closed}
 use Rattle.mean.specs.Mean.{isTooHigh, isCountWrong, anyTooHigh, powerOf, sumOfPowers, meanOf, meanRules}
 use Rattle.mean.specs.Records.{readings, DayReading}
 use Rattle.accuracy.specs.Tally.{Tally, Held, started, tallyOf, tallyCounts, heldSamples}
 use Rattle.accuracy.specs.Terminal.{dayAfterCalls}
-use Rattle.accuracy.specs.Laws.{periodEnergy}
 use Rattle.accuracy.specs.Means.{ClosedDay, Measured, Quiet, Each, heldIn, recordsOf, daySamples, samplesOf, MeanAccurate, MeanDemanded, MeanClaim, QuietLaw, Demand3}
 use Rattle.accuracy.proofs.Sums.{weighted-held, weighted-append, heldEnergy}
 use Rattle.accuracy.proofs.Agreement.{Agrees}

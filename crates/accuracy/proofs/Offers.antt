@@ -31,7 +31,7 @@ use Rattle.accuracy.proofs.Tests.{cond-both, first-limit, reached-equal
 use Rattle.accuracy.proofs.Lists.{padded-set, raised-within}
 use Rattle.accuracy.proofs.Sums.{held-more}
 use Rattle.accuracy.proofs.Windows.{highest-stretch, stretch-energy, Admitted, admits}
-use Rattle.accuracy.proofs.Agreement.{periodOfParts, periodOfTally, highestOfStretches, dayOfTally, Bounded, Agrees, period-of-tally, book-at, count-at}
+use Rattle.accuracy.proofs.Agreement.{periodOfParts, periodOfTally, dayOfTally, Bounded, Agrees, period-of-tally, book-at, count-at}
 
 -- the rules against a day that a tally gives are the tally's own
 module _ {t : Tally} (b : Bounded t) where

@@ -1,6 +1,6 @@
 -- The words of a reader stand for that very reader: each field is read where it was put.
 use mathlib.Core.Path.{_≡_, refl, sym, ap, _∙_}
-use mathlib.Core.List.{List, _++_}
+use mathlib.Core.List.{_++_}
 use Prim.Native.Nat.{ℕ, _+_}
 use native.Mathlib.Nat.{mod-eq-of-lt}
 use native.Mathlib.Omega.{arith}
@@ -14,7 +14,7 @@ use Rattle.day_words.proofs.Inverse as day-words
 use Rattle.steps.specs.declared.Reader.{Reader}
 use Rattle.steps.specs.declared.Stage.{Stage}
 use Rattle.steps.specs.declared.Stage.the-variants.{Fresh, Events, Ended}
-use Rattle.c_reader.specs.Words.{stageNumber, stageFrom, placeWords, readerWords, readerFrom, ReaderFits, InverseLaw, FreshLaw}
+use Rattle.c_reader.specs.Words.{stageNumber, stageFrom, placeWords, readerWords, readerFrom, InverseLaw, FreshLaw}
 
 two-words : (h : HighestLevel) → length (highestWords h) ≡ 2
 two-words (highests.At l) = refl

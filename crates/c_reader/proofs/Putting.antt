@@ -1,10 +1,9 @@
 -- A text at the beginning of a line.
-use mathlib.Core.Path.{_≡_, sym, _∙_}
-use mathlib.Core.List.{List, append-nil}
+use mathlib.Core.Path.{_≡_, _∙_}
+use mathlib.Core.List.{List}
 use Prim.Native.Nat.{ℕ}
 use native.Mathlib.Omega.{arith}
-use lib.ListN.{length, take-append-drop}
-use lib.Seq.{drop-length}
+use lib.ListN.{length}
 use Rattle.runs.specs.Put.{Put}
 use Rattle.c_reader.specs.Calls.{lineOver}
 

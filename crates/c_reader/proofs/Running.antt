@@ -1,14 +1,13 @@
 -- Each run of calls over a file from an opened reader has printed the report of the file, and each file has such a run.
-use mathlib.Core.Path.{_≡_, refl, sym, ap, _∙_}
+use mathlib.Core.Path.{_≡_, refl, sym}
 use mathlib.Core.Bool.{Bool, true, false, true≢false}
 use mathlib.Core.List.{List, [], _∷_, _++_, append-nil}
 use Prim.Native.Nat.{ℕ, zero, suc, _+_, _<_}
 use native.Mathlib.Omega.{arith}
 use lib.Dec.{ltb}
-use lib.ListN.{length, take, drop, getD}
+use lib.ListN.{length, take, drop}
 use lib.Seq.{take-at, getD-drop}
 use Rattle.quantity.proofs.Tests.{test}
-use Rattle.day_words.specs.Words.{wordCount, dayWords}
 use Rattle.day_file.specs.File.{startOf, takenOf}
 use Rattle.steps.specs.declared.Reader.{Reader}
 use Rattle.steps.specs.declared.Stage.{Stage}
@@ -18,7 +17,7 @@ use Rattle.steps.specs.Run.{goes-on, Run, at-end, by-step}
 use Rattle.steps.proofs.Ending.{by-answer, ends-law}
 use Rattle.steps.proofs.Running.{run-law}
 use Rattle.c_reader.specs.Words.{readerWords, readerFrom, ReaderFits}
-use Rattle.c_reader.specs.Calls.{cameNumber, lineOver, stepLeaves}
+use Rattle.c_reader.specs.Calls.{cameNumber, lineOver}
 use Rattle.c_reader.specs.Run.{Bytes, Calls, by-last, by-call, CallsLaw, CallsEnd, CallsEndLaw}
 use Rattle.c_reader.proofs.Inverse.{day-first, inverse}
 use Rattle.c_reader.proofs.Reached.{fresh-fits, step-fits}

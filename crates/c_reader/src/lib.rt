@@ -1,7 +1,7 @@
 // The reader of day files for C and Rust: a file from any transport, in whatever pieces it comes. The reader is 336 words that the caller lends: any
 // words make a reader, and the words of a reader stand for that very reader.
 ghost use mathlib.Core.Path.{_≡_};
-ghost use Prim.Native.Nat.{_+_, _≤_};
+ghost use Prim.Native.Nat.{_≤_};
 ghost use lib.ListN.{length, take};
 ghost use Rattle.day_words.specs.Words.{wordCount, dayWords, dayFrom};
 ghost use Rattle.ledger.specs.Offer.{offerOutcome};

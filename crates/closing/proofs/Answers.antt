@@ -1,6 +1,6 @@
 -- What closing answers, by the drift of the calibration and the method that the counts choose.
-use mathlib.Core.Path.{_≡_, refl, sym, ap, _∙_}
-use mathlib.Core.Bool.{Bool, true, false, not, _||_}
+use mathlib.Core.Path.{_≡_, sym}
+use mathlib.Core.Bool.{true, false, not, _||_}
 use mathlib.Core.List.{[], _∷_}
 use Prim.Native.Nat.{ℕ, _<_}
 use native.Mathlib.Omega.{arith}
@@ -17,7 +17,7 @@ use Rattle.ledger.specs.Day.{energyIn}
 use Rattle.ledger.specs.declared.Day.{Day}
 use Rattle.method.specs.Method.{distance, Counts, allOf, sharesHold, methodOneHolds, methodTwoHolds, hasMethod, methodBy, methodRule, methodOf, totalsOf, countsOf}
 use Rattle.closing.specs.Formula.{formulaBy, levelBy}
-use Rattle.closing.specs.Close.{Closing, largestDrift, closeRules, closingOf, closed}
+use Rattle.closing.specs.Close.{largestDrift, closeRules, closingOf, closed}
 
 -- a formula that is used divides by a number above 0
 pub divisor-positive : (c : Counts) → hasMethod c ≡ true → 0 < formulaBy (methodBy c) (c .totals) .divisor

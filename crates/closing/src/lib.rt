@@ -1,11 +1,11 @@
 // Closing a day: the two formulas of Ldn, and the level by the one that the numbers of flights and events choose.
 ghost use mathlib.Core.Path.{_≡_};
-ghost use Prim.Native.Nat.{_+_, _*_, _^_, _<_, _≤_};
+ghost use Prim.Native.Nat.{_+_, _*_, _^_, _<_};
 ghost use lib.Dec.{ltb};
 ghost use Rattle.quantity.specs.Answers.{reading, methodNumber};
 ghost use Rattle.limbs.specs.Value.{base, value};
 ghost use Rattle.ledger.specs.Day.{energyIn};
-ghost use Rattle.method.specs.Method.{distance, allOf};
+ghost use Rattle.method.specs.Method.{distance};
 ghost use Rattle.method.specs.Sizes.{FewIn};
 ghost use Rattle.closing.specs.Formula.{formulaOne, formulaTwo, formulaBy, levelBy};
 ghost use Rattle.closing.specs.Close.{largestDrift, closeOutcome, closed};

@@ -1,11 +1,11 @@
 -- The words of a day are put; counts are read one by one.
-use mathlib.Core.Path.{_≡_, refl, sym, ap, _∙_}
+use mathlib.Core.Path.{_≡_, sym, ap, _∙_}
 use mathlib.Core.List.{List, [], _∷_, _++_, append-assoc, map-append}
 use Prim.Native.Nat.{ℕ, suc, _+_, _%_, _≤_, _<_}
 use native.Mathlib.Numerals.{add-one}
 use native.Mathlib.Omega.{arith}
-use lib.ListN.{length, take, drop, set, getD, replicate, take-append-drop, length-append, length-drop, length-set}
-use lib.Seq.{paste, paste-zero, paste-suc, take-paste, drop-paste, take-all, take-suc, take-suc-set, drop-drop, drop-cons, getD-drop}
+use lib.ListN.{length, take, drop, set, getD, replicate, length-drop, length-set}
+use lib.Seq.{take-all, take-suc, take-suc-set, drop-cons, getD-drop}
 use Rattle.runs.specs.Put.{Put}
 use Rattle.ledger.specs.declared.Day.{Day}
 use Rattle.day_words.specs.Words.{wordCount, periodWords, restWords, dayWords, wordsAt, countsAt}

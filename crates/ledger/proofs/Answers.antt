@@ -1,5 +1,5 @@
 -- From what is found in a window to the rules, and what holds where none refuses.
-use mathlib.Core.Path.{_≡_, refl, ap}
+use mathlib.Core.Path.{_≡_, refl}
 use mathlib.Core.Bool.{false}
 use mathlib.Core.List.{List}
 use Prim.Native.Nat.{ℕ, _+_, _≤_}
@@ -25,9 +25,9 @@ use Rattle.event.specs.declared.Event.{Event}
 use Rattle.event.specs.Exposing.{Inside, Exposed}
 use Rattle.event.proofs.Runs.{highest-above}
 use Rattle.event.proofs.Whole.{any-above, in-window}
-use Rattle.ledger.specs.Book.{mostClasses, mostFlights, sumOf, isBookInvalid}
-use Rattle.ledger.specs.Day.{periodOf, energyIn, Answered}
-use Rattle.ledger.specs.Offer.{Offering, Accepted, admitted, offered, entered, inDaytime, dayChecks}
+use Rattle.ledger.specs.Book.{mostClasses, isBookInvalid}
+use Rattle.ledger.specs.Day.{periodOf, energyIn}
+use Rattle.ledger.specs.Offer.{Offering, admitted, offered, entered, inDaytime, dayChecks}
 use Rattle.ledger.specs.Entering.{eventChecks, Admissible, judgedOf}
 use Rattle.ledger.specs.declared.Day.{Day}
 use Rattle.ledger.specs.declared.Recording.{Recording}

@@ -6,7 +6,7 @@ use Prim.Native.Nat.{ℕ, zero, suc, _+_, _*_, _/_, _^_, _≤_, _<_, zero-le}
 use native.Mathlib.Nat.{add-zero, le-refl}
 use native.Mathlib.Numerals.{add-one}
 use native.Mathlib.Omega.{arith}
-use borrow.Author.Tests.{ltb-false, lt-ltb, le-ltb, leb-false, lt-leb, le-leb, eqb-true, ne-eqb}
+use borrow.Author.Tests.{ltb-false, leb-false, lt-leb, le-leb, eqb-true, ne-eqb}
 use borrow.Author.Needs.{needs}
 use lib.Dec.{ltb, eqb}
 use lib.ListN.{length, take, getD, set, length-take}

@@ -1,8 +1,8 @@
 -- Document 01, 'Day': the numbers of flights and of accepted events, and the method that they choose.
 use mathlib.Core.Bool.{Bool, true, _&&_, _||_, not, cond}
-use mathlib.Core.List.{List, [], _∷_}
+use mathlib.Core.List.{[], _∷_}
 use Prim.Native.Nat.{ℕ, zero, suc, _+_, _-_, _*_}
-use lib.Dec.{leb, ltb, eqb}
+use lib.Dec.{leb, eqb}
 use lib.ListN.{getD}
 use Rattle.quantity.specs.Answers.{methodNumber, refusalNumber}
 use Rattle.quantity.specs.Rules.{Rule, firstOf, Outcome, refused, given, outcome}

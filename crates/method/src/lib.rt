@@ -2,27 +2,9 @@
 ghost use mathlib.Core.Path.{_≡_};
 ghost use mathlib.Core.Bool.{_||_, _&&_};
 ghost use Prim.Native.Nat.{_+_, _-_, _*_, _≤_, _<_};
-ghost use lib.Dec.{leb, eqb};
 ghost use lib.ListN.{getD};
 ghost use Rattle.ledger.specs.Book.{mostClasses};
-ghost use Rattle.method.specs.Method.{
-  distance,
-  countOf,
-  classCount,
-  totalsOf,
-  countsOf,
-  bothOf,
-  allOf,
-  fewMissing,
-  methodOneHolds,
-  isMeasured,
-  shareHolds,
-  sharesHold,
-  methodTwoHolds,
-  hasMethod,
-  methodOutcome,
-  methodOf,
-};
+ghost use Rattle.method.specs.Method.{distance, countOf, classCount, totalsOf, countsOf, bothOf, fewMissing, methodOneHolds, isMeasured, shareHolds, sharesHold, methodTwoHolds, methodOutcome, methodOf};
 ghost use Rattle.method.specs.Sizes.{mostOfPeriod, Few, FewIn};
 use ledger::Day;
 use ledger::Period;

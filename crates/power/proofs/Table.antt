@@ -12,7 +12,7 @@ use Rattle.power.specs.Power.{X, m}
 use Rattle.power.specs.Table.{IsRow, HoldsTo, IsTable}
 use Rattle.power.proofs.Search.{root-only}
 
-both : (a b : Bool) → T (a && b) → T a × T b
+pub both : (a b : Bool) → T (a && b) → T a × T b
 both true b t = (tt, t)
 both false b t = absurd t
 

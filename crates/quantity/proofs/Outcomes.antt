@@ -1,5 +1,5 @@
 -- From the number of the first rule that refuses to an outcome, and back.
-use mathlib.Core.Path.{_≡_, refl, sym, ap}
+use mathlib.Core.Path.{_≡_, refl, ap}
 use Prim.Native.Nat.{ℕ, zero, suc, _<_}
 use native.Mathlib.Omega.{arith}
 use Rattle.quantity.specs.Rules.{Outcome, refused, given, outcome, follow}

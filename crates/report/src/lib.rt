@@ -1,7 +1,6 @@
 // The lines of the day program, each made into a lent buffer.
 ghost use mathlib.Core.List.{[], _∷_};
 ghost use Prim.Native.Nat.{_+_, _≤_};
-ghost use lib.ListN.{length};
 ghost use Rattle.quantity.specs.Answers.{reading, highestReading, refusalNumber};
 ghost use Rattle.ledger.specs.Offer.{offerOutcome};
 ghost use Rattle.closing.specs.Close.{closingReading, closeOutcome};

@@ -1,5 +1,4 @@
 -- `closing::formula_by` meets its contract.
-use mathlib.Core.Path.{_∙_}
 use borrow.Author.Needs.{needs}
 use Rattle.closing.proofs.formula_by.Statement.{statement}
 use Rattle.closing.proofs.formula_by.Tie as tie

@@ -1,5 +1,4 @@
 -- `level::place_in_row` meets its contract: 2 ^ 1000 has 302 digits and 4 ^ 1000 has 603, so the first digit tells the row.
-use native.Mathlib.Omega.{arith}
 use borrow.Author.Needs.{needs}
 use lib.Dec.{lit<, lit≤}
 use Rattle.level.proofs.Digits.{between-digits}

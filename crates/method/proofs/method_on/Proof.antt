@@ -1,6 +1,5 @@
 -- `method::method_on` meets its contract: method one, else method two, else rule 12.
 use mathlib.Core.Path.{_≡_, sym, _∙_}
-use mathlib.Core.Bool.{Bool}
 use borrow.Author.Needs.{needs}
 use borrow.Author.Tests.{eq-eqb, ne-eqb}
 use Rattle.method.specs.Method.{totalsOf, countsOf, classCount, methodOneHolds, methodTwoHolds}
