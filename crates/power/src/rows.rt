@@ -1,5 +1,6 @@
 // The constant table of mantissas: m(f), the first ten digits of 10^(f / 1000), for f from 0 to 999, in three rows by their first digit. A constant array is
 // built wherever it is named, so that whoever looks for one level names one row.
+
 // Places 0 to 301: first digit 1.
 pub const FROM_1: [u64; 302] = [
     1000000000,
