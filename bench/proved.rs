@@ -11,7 +11,8 @@ extern "C" {
     fn moatburdock_open_day(day: *mut Cell, daytime: *const u16, classes: usize, night: *const u16, others: usize) -> u8;
     fn moatburdock_offer(day: *mut Cell, start: u32, class: u8, wind: u16, wet: bool, background: u32, samples: *const u16, count: usize, exposure: *mut u32,
         lmax: *mut u32) -> u8;
-    fn moatburdock_close_day(day: *const Cell, before: u32, after: u32, record: *mut u64, counts: *mut u32) -> u8;
+    fn moatburdock_close_day(day: *const Cell, before: u32, after: u32, record: *mut u64, counts: *mut u32, highest_by_class: *mut u32)
+        -> u8;
     fn moatburdock_year_mean(records: *const u64, count: usize, level: *mut u32) -> u8;
 }
 
@@ -39,8 +40,8 @@ impl Ledger for Day {
     }
 
     fn close(&self) -> Result<Option<u32>, u8> {
-        let (mut record, mut counts) = (0, [0; 3]);
-        let answer = unsafe { moatburdock_close_day(self.0.as_ptr(), 9400, 9400, &mut record, counts.as_mut_ptr()) };
+        let (mut record, mut counts, mut highest_by_class) = (0, [0; 3], [0; 16]);
+        let answer = unsafe { moatburdock_close_day(self.0.as_ptr(), 9400, 9400, &mut record, counts.as_mut_ptr(), highest_by_class.as_mut_ptr()) };
         if answer == 0 { Ok(level(record as u32)) } else { Err(answer) }
     }
 

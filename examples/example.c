@@ -10,26 +10,29 @@ static int failed(const char *call, uint8_t answer) {
 }
 
 int main(void) {
-    const uint16_t daytime[] = {1}, night[] = {1};
+    const uint16_t daytime[] = {1, 0}, night[] = {0, 1};
     const uint16_t samples[] = {6000, 8000, 8000, 8000, 6000};
     const uint32_t starts[] = {432000, 800000};
     uint32_t day[MOATBURDOCK_DAY_WORDS] = {0};
 
-    if (failed("opening", moatburdock_open_day(day, daytime, 1, night, 1)))
+    if (failed("opening", moatburdock_open_day(day, daytime, 2, night, 2)))
         return 1;
-    for (int i = 0; i < 2; i++) {
+    for (uint8_t i = 0; i < 2; i++) {
         uint32_t exposure = 0, lmax = 0;
-        if (failed("the offer", moatburdock_offer(day, starts[i], 0, 30, false, 6000, samples, 5, &exposure, &lmax)))
+        if (failed("the offer", moatburdock_offer(day, starts[i], i, 30, false, 6000, samples, 5, &exposure, &lmax)))
             return 1;
         printf("fly-over %d: LAE %u.%02u dB, Lmax %u.%02u dB\n", i + 1, exposure / 100, exposure % 100, lmax / 100, lmax % 100);
     }
 
     uint64_t record = 0;
-    uint32_t counts[3] = {0};
-    if (failed("closing", moatburdock_close_day(day, 9400, 9400, &record, counts)))
+    uint32_t counts[3] = {0}, highest_by_class[MOATBURDOCK_CLASSES] = {0};
+    if (failed("closing", moatburdock_close_day(day, 9400, 9400, &record, counts, highest_by_class)))
         return 1;
     uint32_t ldn = MOATBURDOCK_LEVEL_OF(record);
     printf("the day: Ldn %u.%02u dB by method %u, %u event by day, %u by night\n", ldn / 100, ldn % 100, MOATBURDOCK_METHOD_OF(record), counts[0], counts[1]);
+    for (int class = 0; class < MOATBURDOCK_CLASSES; class++)
+        if (highest_by_class[class] != MOATBURDOCK_NOTHING)
+            printf("class %d: highest Lmax %u.%02u dB\n", class, highest_by_class[class] / 100, highest_by_class[class] % 100);
 
     uint64_t year[365];
     for (size_t i = 0; i < 365; i++)

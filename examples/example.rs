@@ -4,7 +4,7 @@ extern "C" {
     fn moatburdock_open_day(day: *mut u32, daytime: *const u16, classes: usize, night: *const u16, others: usize) -> u8;
     fn moatburdock_offer(day: *mut u32, start: u32, class: u8, wind: u16, wet: bool, background: u32, samples: *const u16, count: usize,
         exposure: *mut u32, lmax: *mut u32) -> u8;
-    fn moatburdock_close_day(day: *const u32, before: u32, after: u32, record: *mut u64, counts: *mut u32) -> u8;
+    fn moatburdock_close_day(day: *const u32, before: u32, after: u32, record: *mut u64, counts: *mut u32, highest_by_class: *mut u32) -> u8;
     fn moatburdock_year_mean(records: *const u64, count: usize, level: *mut u32) -> u8;
 }
 
@@ -35,11 +35,11 @@ impl Day {
         Ok((exposure, lmax))
     }
 
-    /// The day's record.
-    fn close(&self) -> Result<u64, Refused> {
-        let (mut record, mut counts) = (0, [0; 3]);
-        checked(unsafe { moatburdock_close_day(self.0.as_ptr(), 9400, 9400, &mut record, counts.as_mut_ptr()) })?;
-        Ok(record)
+    /// The day's record, and the highest Lmax of each class.
+    fn close(&self) -> Result<(u64, [Option<u32>; 16]), Refused> {
+        let (mut record, mut counts, mut levels) = (0, [0; 3], [0; 16]);
+        checked(unsafe { moatburdock_close_day(self.0.as_ptr(), 9400, 9400, &mut record, counts.as_mut_ptr(), levels.as_mut_ptr()) })?;
+        Ok((record, levels.map(|level| (level != u32::MAX).then_some(level))))
     }
 }
 
@@ -50,8 +50,11 @@ fn main() -> Result<(), Refused> {
         let (exposure, lmax) = day.offer(start, 0, &samples)?;
         println!("a fly-over at {}: LAE {:.2} dB, Lmax {:.2} dB", start, exposure as f64 / 100.0, lmax as f64 / 100.0);
     }
-    let record = day.close()?;
+    let (record, highest_by_class) = day.close()?;
     println!("the day: Ldn {:.2} dB by method {}", record as u32 as f64 / 100.0, record >> 32);
+    for (class, level) in highest_by_class.iter().enumerate().filter_map(|(class, level)| level.map(|level| (class, level))) {
+        println!("class {}: highest Lmax {:.2} dB", class, level as f64 / 100.0);
+    }
     let mut mean = 0;
     checked(unsafe { moatburdock_year_mean([record; 365].as_ptr(), 365, &mut mean) })?;
     println!("a year of such days: YLdn {:.2} dB", mean as f64 / 100.0);

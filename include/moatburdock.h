@@ -26,6 +26,9 @@ extern "C" {
 /* The words of a day. Copy them as you like; they hold no pointers. Those that no field uses yet are 0. */
 #define MOATBURDOCK_DAY_WORDS 320
 
+/* The most classes of a book, and the levels of a closing by class. */
+#define MOATBURDOCK_CLASSES 16
+
 /* Stands for 'below scale' where a level is given or taken, and for no Lmax. */
 #define MOATBURDOCK_NOTHING UINT32_MAX
 
@@ -76,9 +79,11 @@ uint8_t moatburdock_open_day(uint32_t day[MOATBURDOCK_DAY_WORDS], const uint16_t
 uint8_t moatburdock_offer(uint32_t day[MOATBURDOCK_DAY_WORDS], uint32_t start, uint8_t flight_class, uint16_t wind, bool wet, uint32_t background,
                           const uint16_t *samples, size_t sample_count, uint32_t *exposure, uint32_t *lmax);
 
-/* Closes a day, with the calibration levels before and after it: gives the day's record (Ldn and its method), and in counts the events by day, those
- * by night, and the highest Lmax (or MOATBURDOCK_NOTHING). The day is read and not changed; more offers may follow. Refusals 11, then 12. */
-uint8_t moatburdock_close_day(const uint32_t day[MOATBURDOCK_DAY_WORDS], uint32_t before, uint32_t after, uint64_t *day_record, uint32_t counts[3]);
+/* Closes a day, with the calibration levels before and after it: gives the day's record (Ldn and its method), in counts the events by day, those by
+ * night, and the highest Lmax (or MOATBURDOCK_NOTHING), and the highest Lmax of each class (or MOATBURDOCK_NOTHING; so for every class beyond the book).
+ * The day is read and not changed; more offers may follow. Refusals 11, then 12. */
+uint8_t moatburdock_close_day(const uint32_t day[MOATBURDOCK_DAY_WORDS], uint32_t before, uint32_t after, uint64_t *day_record, uint32_t counts[3],
+                              uint32_t highest_by_class[MOATBURDOCK_CLASSES]);
 
 /* The mean of a week, of exactly 7 records, and of a year, of 1 to 366 (formulas 6-5 and 6-6): a level, or MOATBURDOCK_NOTHING. A record below scale
  * adds nothing and counts as a day. Refusals 13, then 14. */
@@ -115,7 +120,8 @@ enum moatburdock_came {
     MOATBURDOCK_STARTED,                /* what stands before the events is read */
     MOATBURDOCK_EVENT,                  /* 0 or refusal 1 to 9, the event's number from 1; where it is accepted LAE (or MOATBURDOCK_NOTHING), Lmax */
     MOATBURDOCK_CLOSED,                 /* 0 or refusal 11 or 12; where it is closed Ldn (or MOATBURDOCK_NOTHING), the method, the events by day, those by
-                                           night, the highest Lmax (or MOATBURDOCK_NOTHING) */
+                                           night, the highest Lmax (or MOATBURDOCK_NOTHING). That of each class comes of moatburdock_close_day on the
+                                           reader's day, with the calibration levels of the file */
     MOATBURDOCK_FAULT,                  /* refusal 10, 16 or 17; the reader's day is that of the events before the fault */
     MOATBURDOCK_DONE                    /* the day was closed or a fault met at an earlier step */
 };

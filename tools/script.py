@@ -51,6 +51,9 @@ class Replay:
     def close(self, call):
         return self.day.close_answers(*call.numbers)
 
+    def highest(self, call):
+        return self.day.highest_answers(*call.numbers, [7] * 16)
+
     def week(self, call):
         return noise.mean_answers(call.numbers, len(call.numbers) == 7)
 

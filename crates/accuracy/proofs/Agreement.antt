@@ -2,7 +2,7 @@
 use mathlib.Core.Path.{_≡_, refl, sym}
 use mathlib.Core.Bool.{Bool, true, false, not, _||_}
 use mathlib.Core.List.{List, [], _∷_}
-use Prim.Native.Nat.{ℕ, _*_, _≤_, zero-le}
+use Prim.Native.Nat.{ℕ, _*_, _≤_, _<_, zero-le}
 use native.Mathlib.Nat.{le-trans}
 use native.Mathlib.Omega.{arith}
 use borrow.Author.Needs.{needs}
@@ -20,9 +20,10 @@ use Rattle.limbs.proofs.Digits.{value-limbsOf-whole}
 use Rattle.event.specs.Clock.{dayTicks}
 use Rattle.event.specs.Window.{highest}
 use Rattle.ledger.specs.Book.{mostClasses, sumOf, padded, bookRules}
-use Rattle.ledger.specs.Day.{freshDay, periodOf}
-use Rattle.ledger.specs.Offer.{raised}
+use Rattle.ledger.specs.Day.{noneByClass, freshDay, periodOf}
+use Rattle.ledger.specs.Offer.{raised, raisedInClass}
 use Rattle.ledger.specs.declared.Period.{Period}
+use Rattle.ledger.specs.declared.ClassHighest.{ClassHighest}
 use Rattle.ledger.specs.declared.Day.{Day}
 use Rattle.accuracy.specs.Tally.{Held, Tally, bookOf, started}
 use Rattle.accuracy.specs.Laws.{Apart, periodEnergy}
@@ -41,6 +42,10 @@ abbrev pub highestOfStretches : List Held → HighestLevel
 highestOfStretches [] = highests.Nothing
 highestOfStretches (h ∷ hs) = raised (highestOfStretches hs) (record { 0 = highest (h .levels) })
 
+abbrev pub classesOfStretches : List Held → List ClassHighest
+classesOfStretches [] = noneByClass
+classesOfStretches (h ∷ hs) = raisedInClass (classesOfStretches hs) (h .class) (record { 0 = highest (h .levels) })
+
 abbrev pub dayOfTally : Tally → Day
 dayOfTally t =
     record {
@@ -49,16 +54,23 @@ dayOfTally t =
       night = periodOfTally t false;
       end = record { 0 = t .end };
       highest = highestOfStretches (t .stretches);
+      «highest_by_class» = classesOfStretches (t .stretches);
     }
 
--- the bounds of a tally: 1 to 16 classes, no count passes the book, the stretches lie apart and within the day, and their energy is at most
--- that of a sample of the highest level at each instant up to the end
+-- each stretch is of one of the first n classes
+abbrev pub OfFirst : ℕ → List Held → Type 0
+OfFirst n [] = Unit
+OfFirst n (h ∷ hs) = (h .class < n) × OfFirst n hs
+
+-- the bounds of a tally: 1 to 16 classes, no count passes the book, the stretches are of its classes and lie apart and within the day, and their
+-- energy is at most that of a sample of the highest level at each instant up to the end
 pub record Bounded (t : Tally) : Type 0 where
   pub some : 1 ≤ length (t .book true)
   pub most : length (t .book true) ≤ mostClasses
   pub booked : (p : Bool) → length (t .book p) ≡ length (t .book true)
   pub counted : (p : Bool) → length (t .count p) ≡ length (t .book true)
   pub counts : (p : Bool) (class : ℕ) → getD (t .count p) class 0 ≤ getD (t .book p) class 0
+  pub classes : OfFirst (length (t .book true)) (t .stretches)
   pub day : t .end ≤ dayTicks
   pub apart : Apart (t .end) (t .stretches)
   pub energy : heldEnergy (t .stretches) ≤ e highestSample * t .end
@@ -118,6 +130,7 @@ fresh daytime night h =
             booked = book-even daytime night even;
             counted = λ p. length-replicate n 0;
             counts = λ p class. rw (zeros-at n class) zero-le;
+            classes = tt;
             day = zero-le;
             apart = tt;
             energy = zero-le;

@@ -1,5 +1,5 @@
 -- A closing: the day's counts and sums are the tally's, and its level has both bounds.
-use mathlib.Core.Path.{_≡_, refl, sym, subst}
+use mathlib.Core.Path.{_≡_, refl, sym, subst, _∙_}
 use mathlib.Core.Bool.{Bool, true, false, cond}
 use Prim.Native.Nat.{ℕ, zero, suc, _+_}
 use native.Mathlib.Omega.{arith}
@@ -11,13 +11,13 @@ use Rattle.quantity.proofs.Refusing.{pass}
 use Rattle.level.proofs.Bounds.{accurate}
 use Rattle.method.specs.Method.{Counts, countsOf, methodBy}
 use Rattle.closing.specs.Formula.{formulaBy, levelBy}
-use Rattle.closing.specs.Close.{Closing, closeRules, closed}
+use Rattle.closing.specs.Close.{Closing, closeRules, closed, classesGiven}
 use Rattle.closing.proofs.Answers.{divisor-positive}
 use Rattle.accuracy.specs.Tally.{Tally, tallyCounts, heldSamples}
 use Rattle.accuracy.specs.Demand.{CloseDemanded}
 use Rattle.accuracy.specs.Laws.{periodEnergy}
 use Rattle.accuracy.proofs.Sums.{weighted-held}
-use Rattle.accuracy.proofs.Held.{highest-of-stretches}
+use Rattle.accuracy.proofs.Highest.{highest-of-stretches, by-class, largest-of-classes}
 use Rattle.accuracy.proofs.Agreement.{highestOfStretches, dayOfTally, Bounded, book-at, count-at, book-sum, count-sum, sum-whole}
 
 -- the numbers that choose the method are the tally's
@@ -57,10 +57,13 @@ module _ {t : Tally} (b : Bounded t) (before after : ℕ) where
   closed-same = λ i.
       answer t (firstOf (closeRules before after (counts-same b i))) (counts-same b i) (sum-whole b true i) (sum-whole b false i)
 
-  pub close-demanded : (K : ℕ) → CloseDemanded K t before after (closed (dayOfTally t) before after)
-  close-demanded K = subst (CloseDemanded K t before after) (sym closed-same) (by-number (firstOf (closeRules before after (tallyCounts t))) refl)
+  abbrev AnswerDemanded : ℕ → Outcome Closing → Type 0
+  AnswerDemanded K r = CloseDemanded K t before after r (classesGiven (dayOfTally t) r)
+
+  pub close-demanded : (K : ℕ) → AnswerDemanded K (closed (dayOfTally t) before after)
+  close-demanded K = subst (AnswerDemanded K) (sym closed-same) (by-number (firstOf (closeRules before after (tallyCounts t))) refl)
     where
-      by-number : (n : ℕ) → firstOf (closeRules before after (tallyCounts t)) ≡ n → CloseDemanded K t before after (tallyAnswer t n)
+      by-number : (n : ℕ) → firstOf (closeRules before after (tallyCounts t)) ≡ n → AnswerDemanded K (tallyAnswer t n)
       by-number zero h =
           let c = tallyCounts t in
           let f = formulaBy (methodBy c) (c .totals) in
@@ -72,6 +75,8 @@ module _ {t : Tally} (b : Bounded t) (before after : ℕ) where
             refl,
             refl,
             highest-of-stretches (t .stretches),
+            by-class (t .stretches) (b .most) (b .classes),
+            highest-of-stretches (t .stretches) ∙ sym (largest-of-classes (t .stretches) (b .most) (b .classes)),
             rw (weighted-held weight (t .stretches)) at
                 (accurate K (heldSamples weight (t .stretches)) (f .offset) (f .divisor) positive),
           )

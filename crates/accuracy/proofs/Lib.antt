@@ -5,6 +5,7 @@ pub mod Sums
 pub mod Windows
 pub mod Agreement
 pub mod Held
+pub mod Highest
 pub mod Offers
 pub mod Closings
 pub mod Claim

@@ -21,8 +21,9 @@ use Rattle.event.proofs.Accuracy.{exposure-accurate}
 use Rattle.event.proofs.Whole.{in-window, peak-inside}
 use Rattle.ledger.specs.Book.{mostClasses}
 use Rattle.ledger.specs.Day.{periodOf, withPeriod, Answered}
-use Rattle.ledger.specs.Offer.{Offering, Accepted, offered, admitted, dayChecks, usedUp, withEvent, entered, raised}
+use Rattle.ledger.specs.Offer.{Offering, Accepted, offered, admitted, dayChecks, usedUp, withEvent, entered, raised, raisedInClass}
 use Rattle.ledger.specs.declared.Period.{Period}
+use Rattle.ledger.specs.declared.ClassHighest.{ClassHighest}
 use Rattle.ledger.specs.declared.Day.{Day}
 use Rattle.accuracy.specs.Tally.{offering, Held, Tally, tallied, joined, periodIn, countRaised, sameAs, tallyChecks}
 use Rattle.accuracy.specs.Demand.{OfferDemanded}
@@ -43,22 +44,23 @@ module _ {t : Tally} (b : Bounded t) where
       let class = o .recording .class in
       rw (first-limit (length (t .book true)) mostClasses class (b .most), used-same (periodIn o) class)
 
--- days that differ in their periods and their highest level
-day-same : {classes end : ℕ} {d d′ n n′ : Period} {h h′ : HighestLevel}
-    → d ≡ d′ → n ≡ n′ → h ≡ h′
+-- days that differ in their periods and their highest levels
+day-same : {classes end : ℕ} {d d′ n n′ : Period} {h h′ : HighestLevel} {l l′ : List ClassHighest}
+    → d ≡ d′ → n ≡ n′ → h ≡ h′ → l ≡ l′
     → _≡_ {A = Day}
-    (record { classes = classes; daytime = d; night = n; end = record { 0 = end }; highest = h })
-    (record { classes = classes; daytime = d′; night = n′; end = record { 0 = end }; highest = h′ })
-day-same {classes} {end} p q r = λ i. record { classes = classes; daytime = p i; night = q i; end = record { 0 = end }; highest = r i }
+    (record { classes = classes; daytime = d; night = n; end = record { 0 = end }; highest = h; «highest_by_class» = l })
+    (record { classes = classes; daytime = d′; night = n′; end = record { 0 = end }; highest = h′; «highest_by_class» = l′ })
+day-same {classes} {end} p q r s = λ i.
+    record { classes = classes; daytime = p i; night = q i; end = record { 0 = end }; highest = r i; «highest_by_class» = s i }
 
 -- a class has flights left in a period
 abbrev HasRoom : Tally → ℕ → Bool → Type 0
 HasRoom t class p = getD (t .count p) class 0 < getD (t .book p) class 0
 
--- the tally with one stretch more, of a class
-abbrev withStretch : Tally → ℕ → Held → Tally
-withStretch t class h =
-    record { book = t .book; end = h .to; count = countRaised (t .count) (h .daytime) class; stretches = h ∷ t .stretches }
+-- the tally with one stretch more
+abbrev withStretch : Tally → Held → Tally
+withStretch t h =
+    record { book = t .book; end = h .to; count = countRaised (t .count) (h .daytime) (h .class); stretches = h ∷ t .stretches }
 
 module _ {t : Tally} (b : Bounded t) (class : ℕ) (booked : class < length (t .book true)) where
   in-counts : (p : Bool) → class < length (t .count p)
@@ -88,11 +90,12 @@ module _ {t : Tally} (b : Bounded t) (class : ℕ) (booked : class < length (t .
         night = next .night;
         end = record { 0 = to };
         highest = raised (next .highest) (record { 0 = top });
+        «highest_by_class» = raisedInClass (next .«highest_by_class») class (record { 0 = top });
       })
-      (dayOfTally (withStretch t class (record { daytime = p; from = from; to = to; levels = levels })))
+      (dayOfTally (withStretch t (record { class = class; daytime = p; from = from; to = to; levels = levels })))
   unfolding periodEnergy
-  event-same true from to levels e = day-same (with-event true (energies levels)) (without-event false) (rw e)
-  event-same false from to levels e = day-same (without-event true) (with-event false (energies levels)) (rw e)
+  event-same true from to levels e = day-same (with-event true (energies levels)) (without-event false) (rw e) (rw e)
+  event-same false from to levels e = day-same (without-event true) (with-event false (energies levels)) (rw e) (rw e)
 
   -- a count is raised, and stays within the book where it has room there
   counted-length : (p q : Bool) → length (countRaised (t .count) p class q) ≡ length (t .book true)
@@ -145,6 +148,7 @@ module _ {t : Tally} (b : Bounded t) (o : Offering) (free : firstOf (tallyChecks
         booked = b .booked;
         counted = counted-length b class in-book p;
         counts = counted-within b class in-book p room;
+        classes = (in-book, b .classes);
         day = omega (arith, in-window s, a .past);
         apart = (le-refl _, omega arith, apart-later (t .stretches) (a .after) (b .apart));
         energy =

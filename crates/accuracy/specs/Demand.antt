@@ -1,6 +1,8 @@
 -- Demand 3 for offers and closings: a single claim about whole lists of calls (document 01, 'Powers', 'Day').
 use mathlib.Core.Bool.{cond}
 use mathlib.Core.Path.{_≡_}
+use mathlib.Core.List.{List}
+use mathlib.Core.Option.{Option}
 use Prim.Native.Nat.{ℕ, _<_}
 use Rattle.quantity.specs.Rules.{firstOf, Outcome, refused, given}
 use Rattle.level.specs.Accuracy.{Accurate, weigh}
@@ -11,9 +13,9 @@ use Rattle.ledger.specs.Offer.{Offering, Accepted, offered}
 use Rattle.ledger.specs.declared.Day.{Day}
 use Rattle.method.specs.Method.{methodBy}
 use Rattle.closing.specs.Formula.{formulaBy}
-use Rattle.closing.specs.Close.{Closing, closeRules, closed}
+use Rattle.closing.specs.Close.{Closing, closeRules, dayClosed}
 use Rattle.accuracy.specs.Tally.{Call, offering, closing, Tally, tallyChecks, tallyCounts, heldSamples}
-use Rattle.accuracy.specs.Laws.{Always, highestHeld}
+use Rattle.accuracy.specs.Laws.{Always, highestHeld, ByClass, largest}
 
 -- An accepted offer: the tally takes it in, and its own stretch is summed with w = 1, M = 10. A refused one: the tally leaves it out, by the
 -- same number.
@@ -25,9 +27,10 @@ OfferDemanded K t o (given a) =
 OfferDemanded K t o (refused n) = (firstOf (tallyChecks t o) ≡ n) × (0 < n)
 
 -- A closing: the method and the primed numbers are those of the tally's counts, the highest level is that of the stretches that the tally then
--- holds, and these are summed with the weights, the divisor and the offset of the method. Or 11 or 12, by the tally's counts.
-abbrev pub CloseDemanded : ℕ → Tally → (before after : ℕ) → Outcome Closing → Type 0
-CloseDemanded K t before after (given x) =
+-- holds, that of each class is that of its own stretches, and the single one is the largest of them; and the stretches are summed with the weights, the
+-- divisor and the offset of the method. Or 11 or 12, by the tally's counts.
+abbrev pub CloseDemanded : ℕ → Tally → (before after : ℕ) → Outcome Closing → (highestByClass : List (Option ℕ)) → Type 0
+CloseDemanded K t before after (given x) highestByClass =
     let c = tallyCounts t in
     let f = formulaBy (methodBy c) (c .totals) in
     (firstOf (closeRules before after c) ≡ 0)
@@ -35,13 +38,17 @@ CloseDemanded K t before after (given x) =
     × (x .dayEvents ≡ c .totals .daytime .events)
     × (x .nightEvents ≡ c .totals .night .events)
     × (x .highest ≡ highestHeld (t .stretches))
+    × ByClass (t .stretches) highestByClass
+    × (x .highest ≡ largest highestByClass)
     × Accurate 1 1 (f .offset) K (f .divisor) (heldSamples (λ p. cond p (f .daytime) (f .night)) (t .stretches)) (x .ldn)
-CloseDemanded K t before after (refused n) = (firstOf (closeRules before after (tallyCounts t)) ≡ n) × (0 < n)
+CloseDemanded K t before after (refused n) highestByClass = (firstOf (closeRules before after (tallyCounts t)) ≡ n) × (0 < n)
 
 -- what is demanded of the answer to a call on a day, given the tally of the calls before it, to K decimal places
 abbrev pub Demanded : ℕ → Tally → Day → Call → Type 0
 Demanded K t day (offering o) = OfferDemanded K t o (offered day o .answer)
-Demanded K t day (closing before after) = CloseDemanded K t before after (closed day before after)
+Demanded K t day (closing before after) =
+    let c = dayClosed day before after in
+    CloseDemanded K t before after (c .answer) (c .highestByClass)
 
 -- for every K, every book that opens, every list of calls, refused ones included, and one call more
 unfoldable pub Claim : Type 0

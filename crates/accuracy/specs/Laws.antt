@@ -1,16 +1,17 @@
 -- What holds of the day and of the plain tally after every list of calls, beside demand 3 (document 01, 'Day').
 use mathlib.Core.Path.{_≡_}
-use mathlib.Core.Bool.{Bool, _&&_, cond}
+use mathlib.Core.Bool.{Bool, true, _&&_, cond}
 use mathlib.Core.List.{List, [], _∷_}
 use mathlib.Core.Option.{Option, some, none}
 use Prim.Native.Nat.{ℕ, _+_, _≤_, _<_, max}
-use lib.Dec.{leb, ltb}
-use lib.ListN.{getD}
+use lib.Dec.{leb, ltb, eqb}
+use lib.ListN.{length, getD}
+use Rattle.quantity.specs.Answers.{highestReading}
 use Rattle.quantity.specs.Rules.{firstOf}
 use Rattle.event.specs.Window.{highest}
 use Rattle.decades.specs.Decades.{energies}
 use Rattle.ledger.specs.Book.{bookRules}
-use Rattle.ledger.specs.Day.{freshDay, periodOf, energyIn}
+use Rattle.ledger.specs.Day.{freshDay, periodOf, energyIn, levelsByClass}
 use Rattle.ledger.specs.declared.Day.{Day}
 use Rattle.accuracy.specs.Tally.{Call, Held, Tally, started, tallyOf, sameAs}
 use Rattle.accuracy.specs.Terminal.{dayAfterCalls}
@@ -42,11 +43,34 @@ pub record WithinBook (t : Tally) (day : Day) : Type 0 where
   pub booked : (p : Bool) (class : ℕ) → getD (periodOf day p .accepted) class 0 ≤ getD (periodOf day p .booked) class 0
   pub sums : (p : Bool) → energyIn (periodOf day p) ≡ periodEnergy p (t .stretches)
 
--- the highest level of the stretches, or none without any
-abbrev pub higher : Option ℕ → ℕ → ℕ
-higher none level = level
-higher (some other) level = max other level
+-- the larger of two levels, either of which may be none
+abbrev pub larger : Option ℕ → Option ℕ → Option ℕ
+larger none b = b
+larger (some a) none = some a
+larger (some a) (some b) = some (max a b)
 
+-- the highest level of the stretches, or none without any
 abbrev pub highestHeld : List Held → Option ℕ
 highestHeld [] = none
-highestHeld (h ∷ hs) = some (higher (highestHeld hs) (highest (h .levels)))
+highestHeld (h ∷ hs) = larger (highestHeld hs) (some (highest (h .levels)))
+
+-- the stretches of a class
+abbrev pub ofClass : ℕ → List Held → List Held
+ofClass class [] = []
+ofClass class (h ∷ hs) = cond (eqb (h .class) class) (h ∷ ofClass class hs) (ofClass class hs)
+
+-- document 02, W-201: each class has the highest level of the stretches held for it
+abbrev pub ByClass : List Held → List (Option ℕ) → Type 0
+ByClass hs levels = (class : ℕ) → getD levels class none ≡ highestHeld (ofClass class hs)
+
+-- the largest of some levels, none where all are none
+abbrev pub largest : List (Option ℕ) → Option ℕ
+largest [] = none
+largest (l ∷ ls) = larger l (largest ls)
+
+-- the day's highest level is that of the stretches, and so is each class's; the single one is the largest of them, and a class beyond the book has none
+pub record Highest (t : Tally) (day : Day) : Type 0 where
+  pub single : highestReading (day .highest) ≡ highestHeld (t .stretches)
+  pub byClass : ByClass (t .stretches) (levelsByClass (day .«highest_by_class»))
+  pub largestOfAll : highestReading (day .highest) ≡ largest (levelsByClass (day .«highest_by_class»))
+  pub beyond : (class : ℕ) → length (t .book true) ≤ class → getD (levelsByClass (day .«highest_by_class»)) class none ≡ none

@@ -18,14 +18,15 @@ pub data Call : Type 0 where
   offering : Offering → Call
   closing : (before after : ℕ) → Call
 
--- a stretch of the list, with its period: its samples, and the time of the first and the time after the last
+-- a stretch of the list, with its class and its period: its samples, and the time of the first and the time after the last
 pub record Held : Type 0 where
+  pub class : ℕ
   pub daytime : Bool
   pub from : ℕ
   pub to : ℕ
   pub levels : List ℕ
 
--- the book, an end, a count for each class and period, and a list of stretches with their periods, the latest first. A period is given by a
+-- the book, an end, a count for each class and period, and a list of stretches with their classes and periods, the latest first. A period is given by a
 -- Bool: true is daytime.
 pub record Tally : Type 0 where
   pub book : Bool → List ℕ
@@ -79,6 +80,7 @@ joined t o =
       count = countRaised (t .count) (periodIn o) (r .class);
       stretches =
           record {
+            class = r .class;
             daytime = periodIn o;
             from = r .start .0 + stretchFirst (o .samples);
             to = r .start .0 + stretchEnd (o .samples);

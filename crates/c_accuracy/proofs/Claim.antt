@@ -2,12 +2,13 @@
 use mathlib.Core.Path.{_≡_, refl, sym, ap, ap₂, subst, _∙_}
 use mathlib.Core.Bool.{true, false}
 use mathlib.Core.List.{List, [], _∷_, map}
+use mathlib.Core.Option.{Option, none}
 use Prim.Native.Nat.{ℕ, zero, suc, _+_, _*_, _^_, _≤_, _<_}
 use native.Mathlib.Omega.{arith}
 use borrow.Author.Needs.{needs}
 use borrow.Author.Tests.{ltb-false, not-false}
 use lib.Dec.{ltb, lit<, lit≤}
-use lib.ListN.{length}
+use lib.ListN.{length, replicate}
 use Rattle.quantity.specs.Answers.{Reading, level, reading, highestReading}
 use Rattle.quantity.specs.Rules.{Outcome, refused, given, firstOf, outcome}
 use Rattle.quantity.specs.declared.HighestLevel.{HighestLevel}
@@ -16,30 +17,31 @@ use Rattle.quantity.proofs.Outcomes.{refuses}
 use Rattle.quantity.proofs.Refusing.{pass}
 use Rattle.quantity.proofs.Tests.{neither, test}
 use Rattle.level.specs.Level.{levelOf}
-use Rattle.ledger.specs.Book.{sumOf}
-use Rattle.ledger.specs.Day.{freshDay}
+use Rattle.ledger.specs.Book.{mostClasses, sumOf}
+use Rattle.ledger.specs.Day.{freshDay, levelsByClass}
 use Rattle.ledger.specs.Offer.{Offering, Accepted, dayChecks, offered}
+use Rattle.ledger.specs.declared.ClassHighest.{ClassHighest}
 use Rattle.ledger.specs.declared.Day.{Day}
 use Rattle.method.specs.Method.{methodOneHolds, methodBy, countsOf}
 use Rattle.closing.specs.Formula.{formulaBy}
-use Rattle.closing.specs.Close.{Closing, closeRules, closingOf, closed}
+use Rattle.closing.specs.Close.{Closing, closeRules, closingOf, closed, classesGiven}
 use Rattle.closing.proofs.Answers.{divisor-positive}
 use Rattle.mean.specs.Mean.{isCountWrong, anyTooHigh, sumOfPowers, meanRules, meanOf}
 use Rattle.mean.specs.Records.{readings, DayReading}
-use Rattle.accuracy.specs.Tally.{started, tallyOf, offering, closing}
+use Rattle.accuracy.specs.Tally.{Tally, started, tallyOf, offering, closing}
 use Rattle.accuracy.specs.Terminal.{dayAfterCalls}
-use Rattle.accuracy.specs.Demand.{OfferDemanded, CloseDemanded, Claim}
+use Rattle.accuracy.specs.Demand.{OfferDemanded, CloseDemanded, Demanded, Claim}
 use Rattle.accuracy.specs.Means.{ClosedDay, recordsOf, MeanDemanded, MeanClaim}
 use Rattle.accuracy.proofs.Claim.{claim}
 use Rattle.accuracy.proofs.Means.{mean-claim}
 use Rattle.day_words.specs.Words.{dayWords, dayFrom}
-use Rattle.c_interface.specs.Numbers.{levelNumber, highestNumber, recordNumber, recordLevel, recordLevels, Told, ToldHighest}
-use Rattle.c_interface.specs.Calls.{OfferLent, CloseLent, leaves, closeLeaves}
+use Rattle.c_interface.specs.Numbers.{levelNumber, classNumbers, classLevelsFrom, recordNumber, recordLevel, recordLevels, Told, ToldHighest}
+use Rattle.c_interface.specs.Calls.{OfferLent, CloseLent, leaves, closedLeaves, closeLeaves}
 use Rattle.c_interface.proofs.Written.{told-level, record-law, told-highest}
 use Rattle.c_accuracy.specs.Calls.{CCall, offer, close, callOf, lentTo, wordsOf}
-use Rattle.c_accuracy.specs.Demand.{offerSeen, closeSeen, meanSeen, CDemanded, CClaim, Wrote, AllWrote, CMeanClaim, CDemand3}
+use Rattle.c_accuracy.specs.Demand.{offerSeen, closeSeen, classesSeen, meanSeen, CDemanded, CClaim, Wrote, AllWrote, CMeanClaim, CDemand3}
 use Rattle.c_accuracy.proofs.Told.{told-exposure, told-weighted, sum-most, told-mean}
-use Rattle.c_accuracy.proofs.Held.{Low, Reached, offeredBy, whole}
+use Rattle.c_accuracy.proofs.Held.{Low, AllLow, Reached, offeredBy, whole}
 
 -- an outcome that a caller reads as it is: its refusals have numbers, and its values are told
 abbrev Plain : {A : Type 0} → (A → Type 0) → Outcome A → Type 0
@@ -51,12 +53,17 @@ offer-seen : (lent : OfferLent) (day : List ℕ) (r : Outcome Accepted) → Plai
 offer-seen lent day (refused n) h = refuses n h _
 offer-seen lent day (given a) h = rw (told-level (a .exposure) h)
 
-close-seen : (lent : CloseLent) (r : Outcome Closing) → Plain (λ c. Told (c .ldn) × ToldHighest (c .highest)) r
-    → closeSeen (leaves lent r (λ c. record { dayRecord = recordNumber (c .ldn) (c .method); counts = c .dayEvents ∷ c .nightEvents ∷ highestNumber (c .highest) ∷ [] })) ≡ r
-close-seen lent (refused n) h = refuses n h _
-close-seen lent (given c) h =
+-- a closing that is read as it is has the answer and the levels by class of the call; of a refused one the levels are not read
+abbrev PlainClosing : Outcome Closing → Type 0
+PlainClosing = Plain (λ c. Told (c .ldn) × ToldHighest (c .highest))
+
+close-seen : (K : ℕ) (t : Tally) (before after : ℕ) (lent : CloseLent) (r : Outcome Closing) (levels : List (Option ℕ))
+    → PlainClosing r → classLevelsFrom (classNumbers levels) ≡ levels → CloseDemanded K t before after r levels
+    → let l = closedLeaves lent (record { answer = r; highestByClass = levels }) in CloseDemanded K t before after (closeSeen l) (classesSeen l)
+close-seen K t before after lent (refused n) levels h e d = rw (refuses n h _) d
+close-seen K t before after lent (given c) levels h e d =
     let r = record-law (c .ldn) (c .method) (h .0) in
-    rw (r .0, r .1, told-highest (c .highest) (h .1))
+    rw (r .0, r .1, told-highest (c .highest) (h .1), e) d
 
 mean-seen : (lent : ℕ) (r : Outcome Reading) → Plain Told r → meanSeen (leaves lent r levelNumber) ≡ r
 mean-seen lent (refused n) h = refuses n h _
@@ -74,6 +81,17 @@ low-told : (h : HighestLevel) → Low h → ToldHighest (highestReading h)
 low-told (highests.At l) p = omega arith
 low-told highests.Nothing p = tt
 
+low-classes : (cs : List ClassHighest) → AllLow cs → classLevelsFrom (classNumbers (levelsByClass cs)) ≡ levelsByClass cs
+low-classes [] p = refl
+low-classes (c ∷ cs) p = ap₂ _∷_ (told-highest (highestReading (c .level)) (low-told (c .level) (p .0))) (low-classes cs (p .1))
+
+no-classes : classLevelsFrom (classNumbers (replicate mostClasses none)) ≡ replicate mostClasses none
+no-classes = refl
+
+classes-told : (d : Day) → AllLow (d .«highest_by_class») → (r : Outcome Closing) → classLevelsFrom (classNumbers (classesGiven d r)) ≡ classesGiven d r
+classes-told d p (given c) = low-classes (d .«highest_by_class») p
+classes-told d p (refused n) = no-classes
+
 closing-told : (d : Day) → Reached d → (before after : ℕ) → firstOf (closeRules before after (countsOf d)) ≡ 0 → Told (closingOf d .ldn)
 closing-told d r before after h =
     let c = countsOf d in
@@ -87,10 +105,10 @@ closing-told d r before after h =
     (λ t. told-weighted (f .offset) (f .divisor) divides (rw t (lit≤ tt)) (rw t (lit≤ tt)) (r .energy true) (r .energy false))
     (λ t. told-weighted (f .offset) (f .divisor) divides (rw t weight) (rw t weight) (r .energy true) (r .energy false))
 
-plain-closing : (d : Day) → Reached d → (before after : ℕ) → Plain (λ c. Told (c .ldn) × ToldHighest (c .highest)) (closed d before after)
+plain-closing : (d : Day) → Reached d → (before after : ℕ) → PlainClosing (closed d before after)
 plain-closing d r before after = go (firstOf (closeRules before after (countsOf d))) refl
   where
-    go : (n : ℕ) → firstOf (closeRules before after (countsOf d)) ≡ n → Plain (λ c. Told (c .ldn) × ToldHighest (c .highest)) (outcome n (closingOf d))
+    go : (n : ℕ) → firstOf (closeRules before after (countsOf d)) ≡ n → PlainClosing (outcome n (closingOf d))
     go zero h = (closing-told d r before after h, low-told (d .highest) (r .highest))
     go (suc n) h = omega arith
 
@@ -122,9 +140,11 @@ c-claim K day daytime night e calls call = go call
     go (close before after lent) =
         let w = whole day daytime night e calls in
         let d = dayFrom (wordsOf day daytime night calls) in
-        subst (CloseDemanded K (tallyOf (started daytime night) (map callOf calls)) before after)
-        (ap (λ (x : Day). closed x before after) (sym (w .1)) ∙ sym (close-seen lent (closed d before after) (plain-closing d (w .2) before after)))
-        (claim K daytime night (w .0) (map callOf calls) (closing before after))
+        let t = tallyOf (started daytime night) (map callOf calls) in
+        close-seen K t before after lent (closed d before after) (classesGiven d (closed d before after))
+        (plain-closing d (w .2) before after)
+        (classes-told d (w .2 .byClass) (closed d before after))
+        (subst (λ (x : Day). Demanded K t x (closing before after)) (sym (w .1)) (claim K daytime night (w .0) (map callOf calls) (closing before after)))
 
 -- the level of a record that calls through C wrote is that of the closing
 wrote-level : (d : ClosedDay) (n : ℕ) → Wrote d n → recordLevel n ≡ reading (d .kept .level)
@@ -133,7 +153,7 @@ wrote-level d n x =
     let words = wordsOf (x .day) (d .daytime) (d .night) (x .calls) in
     let is : closed (dayFrom words) (d .before) (d .after) ≡ given (d .closing) =
     ap (λ (y : Day). closed y (d .before) (d .after)) (w .1 ∙ ap (dayAfterCalls (freshDay (d .daytime) (d .night))) (x .same)) ∙ d .closes in
-    let told = subst (Plain (λ c. Told (c .ldn) × ToldHighest (c .highest))) is (plain-closing (dayFrom words) (w .2) (d .before) (d .after)) in
+    let told = subst PlainClosing is (plain-closing (dayFrom words) (w .2) (d .before) (d .after)) in
     let written : closeLeaves (x .lent) words (d .before) (d .after) .lent .dayRecord ≡ recordNumber (d .closing .ldn) (d .closing .method) = rw is in
     ap recordLevel (sym (x .is) ∙ written)
     ∙ record-law (d .closing .ldn) (d .closing .method) (told .0) .0

@@ -6,6 +6,7 @@ use Prim.Native.Nat.{ℕ, zero, suc, _^_, _≤_, _<_}
 use native.Mathlib.Nat.{mod-lt}
 use native.Mathlib.Omega.{arith}
 use lib.Dec.{ltb, lit<}
+use lib.ListN.{replicate}
 use Rattle.quantity.specs.Rules.{refused, given, firstOf, outcome, follow}
 use Rattle.quantity.specs.Limits.{highestSample}
 use Rattle.quantity.specs.declared.HighestLevel.{HighestLevel}
@@ -16,9 +17,10 @@ use Rattle.limbs.specs.Value.{value, base}
 use Rattle.limbs.proofs.Digits.{value-limbsOf}
 use Rattle.event.specs.Event.{eventOf, energyOf}
 use Rattle.event.specs.Window.{highest}
-use Rattle.ledger.specs.Book.{bookRules}
-use Rattle.ledger.specs.Day.{Answered, freshDay, noDay, periodOf, withPeriod, energyIn}
-use Rattle.ledger.specs.Offer.{Offering, Accepted, dayChecks, inDaytime, withEvent, raised, admitted, offered}
+use Rattle.ledger.specs.Book.{mostClasses, bookRules}
+use Rattle.ledger.specs.Day.{Answered, noneInClass, freshDay, noDay, periodOf, withPeriod, energyIn}
+use Rattle.ledger.specs.Offer.{Offering, Accepted, dayChecks, inDaytime, withEvent, raised, raisedInClass, admitted, offered}
+use Rattle.ledger.specs.declared.ClassHighest.{ClassHighest}
 use Rattle.ledger.specs.declared.Day.{Day}
 use Rattle.ledger.specs.declared.Period.{Period}
 use Rattle.accuracy.specs.Terminal.{dayAfter, dayAfterCalls}
@@ -36,10 +38,15 @@ abbrev pub Low : HighestLevel → Type 0
 Low (highests.At l) = l .0 ≤ highestSample
 Low highests.Nothing = Unit
 
+abbrev pub AllLow : List ClassHighest → Type 0
+AllLow [] = Unit
+AllLow (c ∷ cs) = Low (c .level) × AllLow cs
+
 pub record Reached (d : Day) : Type 0 where
   pub fits : DayFits d
   pub energy : (p : Bool) → energyIn (periodOf d p) < base ^ 4
   pub highest : Low (d .highest)
+  pub byClass : AllLow (d .«highest_by_class»)
 
 -- an opening and an offer by the number of the refusal, 0 where there is none
 abbrev openedBy : (daytime night : List ℕ) → ℕ → Answered Unit
@@ -60,9 +67,13 @@ module _ (day daytime night : List ℕ) where
       go zero h e f = (h, refl, f)
       go (suc n) h e f = absurd (omega arith)
 
+none-low : (n : ℕ) → AllLow (replicate n noneInClass)
+none-low zero = tt
+none-low (suc n) = (tt, none-low n)
+
 fresh-reached : (daytime night : List ℕ) → DayFits (freshDay daytime night) → Reached (freshDay daytime night)
 unfolding value
-fresh-reached daytime night f = record { fits = f; energy = none; highest = tt }
+fresh-reached daytime night f = record { fits = f; energy = none; highest = tt; byClass = none-low mostClasses }
   where
     none : (p : Bool) → energyIn (periodOf (freshDay daytime night) p) < base ^ 4
     none true = lit< tt
@@ -72,6 +83,11 @@ fresh-reached daytime night f = record { fits = f; energy = none; highest = tt }
 raised-low : (h : HighestLevel) (l : Level) → Low h → l .0 ≤ highestSample → Low (raised h l)
 raised-low highests.Nothing l p q = q
 raised-low (highests.At h) l p q = test (ltb (h .0) (l .0)) (λ t. rw t q) (λ t. rw t p)
+
+raised-all-low : (cs : List ClassHighest) (k : ℕ) (l : Level) → AllLow cs → l .0 ≤ highestSample → AllLow (raisedInClass cs k l)
+raised-all-low [] k l p q = p
+raised-all-low (c ∷ cs) zero l p q = (raised-low (c .level) l (p .0) q, p .1)
+raised-all-low (c ∷ cs) (suc k) l p q = (p .0, raised-all-low cs k l (p .1) q)
 
 with-energy : (d : Day) (b : Bool) (class S : ℕ) → ((p : Bool) → energyIn (periodOf d p) < base ^ 4)
     → (p : Bool) → energyIn (periodOf (withPeriod d b (withEvent (periodOf d b) class S)) p) < base ^ 4
@@ -84,14 +100,27 @@ same-highest : (d : Day) (b : Bool) (p : Period) → withPeriod d b p .highest �
 same-highest d true p = refl
 same-highest d false p = refl
 
+same-by-class : (d : Day) (b : Bool) (p : Period) → withPeriod d b p .«highest_by_class» ≡ d .«highest_by_class»
+same-by-class d true p = refl
+same-by-class d false p = refl
+
 pub offered-reached : (d : Day) (o : Offering) → Reached d → Reached (offered d o .day)
 offered-reached d o r = go (firstOf (dayChecks d o)) refl (offered-fits d o (r .fits))
   where
+    by-day : Bool
+    by-day = inDaytime (o .recording) (eventOf (o .samples))
+
+    after : Period
+    after = withEvent (periodOf d by-day) (o .recording .class) (energyOf (o .samples))
+
     entered-low : highest (o .samples) ≤ highestSample → Low (admitted d o .day .highest)
-    entered-low h =
-        let by-day = inDaytime (o .recording) (eventOf (o .samples)) in
-        let p = withEvent (periodOf d by-day) (o .recording .class) (energyOf (o .samples)) in
-        raised-low (withPeriod d by-day p .highest) (eventOf (o .samples) .lmax) (rw (same-highest d by-day p) (r .highest)) h
+    entered-low h = raised-low (withPeriod d by-day after .highest) (eventOf (o .samples) .lmax) (rw (same-highest d by-day after) (r .highest)) h
+
+    classes-low : highest (o .samples) ≤ highestSample → AllLow (admitted d o .day .«highest_by_class»)
+    classes-low h =
+        raised-all-low (withPeriod d by-day after .«highest_by_class») (o .recording .class) (eventOf (o .samples) .lmax)
+        (rw (same-by-class d by-day after) (r .byClass))
+        h
 
     entered : (p : Bool) → energyIn (periodOf (admitted d o .day) p) < base ^ 4
     entered true = with-energy d (inDaytime (o .recording) (eventOf (o .samples))) (o .recording .class) (energyOf (o .samples)) (r .energy) true
@@ -103,6 +132,7 @@ offered-reached d o r = go (firstOf (dayChecks d o)) refl (offered-fits d o (r .
           fits = f;
           energy = entered;
           highest = entered-low (admits o _ _ _ h .level);
+          byClass = classes-low (admits o _ _ _ h .level);
         }
     go (suc n) h f = r
 

@@ -2,6 +2,7 @@
 use mathlib.Core.Path.{_≡_}
 use mathlib.Core.List.{List, [], _∷_, map}
 use Prim.Native.Nat.{ℕ}
+use mathlib.Core.Option.{Option}
 use lib.ListN.{getD}
 use Rattle.quantity.specs.Answers.{Reading}
 use Rattle.quantity.specs.Rules.{Outcome, outcome}
@@ -13,7 +14,7 @@ use Rattle.accuracy.specs.Terminal.{dayAfterCalls}
 use Rattle.accuracy.specs.Demand.{OfferDemanded, CloseDemanded}
 use Rattle.accuracy.specs.Means.{ClosedDay, Measured, Each, MeanDemanded}
 use Rattle.day_words.specs.Words.{dayFrom}
-use Rattle.c_interface.specs.Numbers.{levelFrom, highestFrom, recordLevel, recordMethod}
+use Rattle.c_interface.specs.Numbers.{levelFrom, highestFrom, classLevelsFrom, recordLevel, recordMethod}
 use Rattle.c_interface.specs.Calls.{Left, OfferLent, CloseLent, openLeaves, offerLeaves, closeLeaves, weekLeaves, yearLeaves}
 use Rattle.c_accuracy.specs.Calls.{CCall, offer, close, callOf, lentTo, wordsOf}
 
@@ -32,6 +33,9 @@ closeSeen l =
       highest = highestFrom (getD (l .lent .counts) 2 0);
     })
 
+abbrev pub classesSeen : Left CloseLent → List (Option ℕ)
+classesSeen l = classLevelsFrom (l .lent .highestByClass)
+
 abbrev pub meanSeen : Left ℕ → Outcome Reading
 meanSeen l = outcome (l .answer) (levelFrom (l .lent))
 
@@ -44,7 +48,9 @@ HeldLaw =
 -- and for every K and one call more, what the caller reads stands in the demanded relation to the plain tally of the list
 abbrev pub CDemanded : ℕ → Tally → List ℕ → CCall → Type 0
 CDemanded K t day (offer o exposure lmax) = OfferDemanded K t o (offerSeen (offerLeaves (lentTo day exposure lmax) o))
-CDemanded K t day (close before after lent) = CloseDemanded K t before after (closeSeen (closeLeaves lent day before after))
+CDemanded K t day (close before after lent) =
+    let l = closeLeaves lent day before after in
+    CloseDemanded K t before after (closeSeen l) (classesSeen l)
 
 unfoldable pub CClaim : Type 0
 CClaim =

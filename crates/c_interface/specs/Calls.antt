@@ -7,13 +7,13 @@ use lib.ListN.{length, getD, set}
 use Rattle.quantity.specs.Rules.{Outcome, outcome, follow, Rule, firstOf}
 use Rattle.ledger.specs.Day.{opened, timeAt}
 use Rattle.ledger.specs.Offer.{Offering, offered}
-use Rattle.closing.specs.Close.{closed}
+use Rattle.closing.specs.Close.{Closed, dayClosed}
 use Rattle.mean.specs.Mean.{weekMeanOf, yearMeanOf, isTooHigh}
 use Rattle.mean.specs.Records.{placeRule}
 use Rattle.land.specs.Classes.{classOf}
 use Rattle.land.specs.Verdict.{landClassOf, verdictOf}
 use Rattle.day_words.specs.Words.{dayWords, dayFrom}
-use Rattle.c_interface.specs.Numbers.{levelNumber, levelFrom, highestNumber, highestFrom, recordNumber, recordLevel, recordLevels, findingNumber, marginNumber}
+use Rattle.c_interface.specs.Numbers.{levelNumber, levelFrom, highestNumber, highestFrom, classNumbers, recordNumber, recordLevel, recordLevels, findingNumber, marginNumber}
 
 -- the answer, 0 or the number of a refusal, and what was lent
 pub record Left (L : Type 0) : Type 0 where
@@ -49,18 +49,23 @@ offerLeaves lent o =
     leaves lent (after .answer)
     (λ a. record { day = dayWords (after .day); exposure = levelNumber (a .exposure); lmax = a .lmax })
 
--- a closing: the day's record, and Nd', Nn' and the highest Lmax
+-- a closing: the day's record; Nd', Nn' and the highest Lmax; and the highest Lmax of each class
 pub record CloseLent : Type 0 where
   pub dayRecord : ℕ
   pub counts : List ℕ
+  pub highestByClass : List ℕ
 
-abbrev pub closeLeaves : CloseLent → (day : List ℕ) (before after : ℕ) → Left CloseLent
-closeLeaves lent day before after =
-    leaves lent (closed (dayFrom day) before after)
+abbrev pub closedLeaves : CloseLent → Closed → Left CloseLent
+closedLeaves lent closed =
+    leaves lent (closed .answer)
     (λ c. record {
       dayRecord = recordNumber (c .ldn) (c .method);
       counts = c .dayEvents ∷ c .nightEvents ∷ highestNumber (c .highest) ∷ [];
+      highestByClass = classNumbers (closed .highestByClass);
     })
+
+abbrev pub closeLeaves : CloseLent → (day : List ℕ) (before after : ℕ) → Left CloseLent
+closeLeaves lent day before after = closedLeaves lent (dayClosed (dayFrom day) before after)
 
 -- a mean: its level
 abbrev pub weekLeaves : ℕ → List ℕ → Left ℕ

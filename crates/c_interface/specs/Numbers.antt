@@ -1,6 +1,6 @@
 -- The numbers by which levels, day records, findings and margins go out of the library and come in.
 use mathlib.Core.Bool.{true, false, cond}
-use mathlib.Core.List.{List, [], _∷_}
+use mathlib.Core.List.{List, [], _∷_, map}
 use mathlib.Core.Option.{Option, some, none}
 use mathlib.Core.Path.{_≡_}
 use Prim.Native.Nat.{ℕ, _+_, _*_, _/_, _%_, _<_}
@@ -26,6 +26,13 @@ highestFrom n = cond (eqb n nothing) none (some n)
 abbrev pub highestNumber : Option ℕ → ℕ
 highestNumber (some c) = c
 highestNumber none = nothing
+
+-- the highest Lmax of each class
+abbrev pub classNumbers : List (Option ℕ) → List ℕ
+classNumbers = map highestNumber
+
+abbrev pub classLevelsFrom : List ℕ → List (Option ℕ)
+classLevelsFrom = map highestFrom
 
 -- a day's answer in one number of 64 bits: its level in the lower half, its method in the upper one
 abbrev pub upper : ℕ

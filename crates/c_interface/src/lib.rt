@@ -3,6 +3,7 @@
 ghost use mathlib.Core.Path.{_≡_};
 ghost use Prim.Native.Nat.{_<_, _≤_};
 ghost use Rattle.quantity.specs.Answers.{reading, methodNumber, highestReading};
+ghost use Rattle.ledger.specs.Day.{levelsByClass};
 ghost use Rattle.mean.specs.Mean.{meanOutcome, meanOf};
 ghost use Rattle.land.specs.Answers.{marginReading, findingReading};
 ghost use Rattle.c_interface.specs.Numbers.{
@@ -10,6 +11,7 @@ ghost use Rattle.c_interface.specs.Numbers.{
   levelNumber,
   highestFrom,
   highestNumber,
+  classNumbers,
   recordNumber,
   recordLevel,
   recordLevels,
@@ -34,6 +36,7 @@ use land::Finding;
 use land::LandClassAnswer;
 use land::Margin;
 use land::VerdictAnswer;
+use ledger::ClassHighest;
 use ledger::OfferAnswer;
 use ledger::Recording;
 use mean::MeanAnswer;
@@ -89,6 +92,21 @@ pub fn highest_number(highest: HighestLevel) -> u32
         HighestLevel::At(at) => at.0,
         HighestLevel::Nothing => NOTHING,
     }
+}
+
+// The highest Lmax of each class.
+fn class_numbers(levels: [ClassHighest; 16]) -> [u32; 16]
+    ensures { λ r. ⌜ r ≡ classNumbers (levelsByClass levels) ⌝ }
+{
+    let mut numbers = [0u32; 16];
+    let mut i = 0;
+    while i < 16 {
+        let class = levels[i];
+        let highest = class.level;
+        numbers[i] = highest_number(highest);
+        i += 1;
+    }
+    numbers
 }
 
 // The level of a record.
@@ -172,7 +190,7 @@ pub extern "C" fn moatburdock_offer(
     }
 }
 
-// Closes a day, with the calibration levels before and after. Gives the day's record, and Nd', Nn' and the highest Lmax.
+// Closes a day, with the calibration levels before and after. Gives the day's record, and Nd', Nn' and the highest Lmax, and the highest Lmax of each class.
 #[no_mangle]
 pub extern "C" fn moatburdock_close_day(
     day: &[u32; 320],
@@ -180,29 +198,44 @@ pub extern "C" fn moatburdock_close_day(
     after: u32,
     day_record: &mut u64,
     counts: &mut [u32; 3],
+    highest_by_class: &mut [u32; 16],
 ) -> u8
     ensures { λ r.
         ⌜
-        record { answer = r; lent = record { dayRecord = now (day_record .exit); counts = now (counts .exit) } }
+        record {
+          answer = r;
+          lent = record {
+            dayRecord = now (day_record .exit);
+            counts = now (counts .exit);
+            highestByClass = now («highest_by_class» .exit);
+          };
+        }
         ≡ closeLeaves
-        (record { dayRecord = now (day_record .entry); counts = now (counts .entry) })
+        (record {
+          dayRecord = now (day_record .entry);
+          counts = now (counts .entry);
+          highestByClass = now («highest_by_class» .entry);
+        })
         (now (day .entry)) before after
         ⌝ }
 {
     let closed = closing::close_day(day_words::decode(day), Level(before), Level(after));
-    match closed {
+    let result = closed.answer;
+    match result {
         CloseAnswer::Refused(refusal) => quantity::refusal_number(refusal),
         CloseAnswer::Closed(closing) => {
             let answer = closing.answer;
             let ldn = answer.level;
             let method = answer.method;
             let highest = closing.highest;
+            let levels = closed.highest_by_class;
             *day_record = record_of(ldn, method);
             *counts = [
                 closing.day_events,
                 closing.night_events,
                 highest_number(highest),
             ];
+            *highest_by_class = class_numbers(levels);
             0
         }
     }

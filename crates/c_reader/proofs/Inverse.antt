@@ -6,26 +6,32 @@ use native.Mathlib.Nat.{mod-eq-of-lt}
 use native.Mathlib.Omega.{arith}
 use lib.ListN.{length, take, getD, length-append}
 use lib.Seq.{take-at, getD-append-add}
-use Rattle.quantity.specs.declared.HighestLevel.{HighestLevel}
-use Rattle.quantity.specs.declared.HighestLevel.the-variants as highests
 use Rattle.ledger.specs.declared.Day.{Day}
-use Rattle.day_words.specs.Words.{wordCount, highestWords, dayWords, DayFits}
+use Rattle.day_words.specs.Words.{wordCount, dayWords, DayFits}
 use Rattle.day_words.proofs.Inverse as day-words
 use Rattle.steps.specs.declared.Reader.{Reader}
 use Rattle.steps.specs.declared.Stage.{Stage}
 use Rattle.steps.specs.declared.Stage.the-variants.{Fresh, Events, Ended}
 use Rattle.c_reader.specs.Words.{stageNumber, stageFrom, placeWords, readerWords, readerFrom, InverseLaw, FreshLaw}
 
-two-words : (h : HighestLevel) → length (highestWords h) ≡ 2
-two-words (highests.At l) = refl
-two-words highests.Nothing = refl
-
 length-day : (d : Day) → DayFits d → length (dayWords d) ≡ wordCount
 unfolding dayWords
 length-day d f =
     let p = f .daytime in
     let q = f .night in
-    simp length-append (omega (arith, p .booked, p .accepted, p .sum, q .booked, q .accepted, q .sum, two-words (d .highest)))
+    simp length-append
+    (omega (
+      arith,
+      p .booked,
+      p .accepted,
+      p .sum,
+      q .booked,
+      q .accepted,
+      q .sum,
+      day-words.two-words (d .highest),
+      day-words.length-class-words (d .«highest_by_class»),
+      f .byClass,
+    ))
 
 stage-read : (g : Stage) → stageFrom (stageNumber g) ≡ g
 stage-read Fresh = refl

@@ -1,17 +1,20 @@
 -- Document 01, 'Day', 'Refused calls': closing a day.
 use mathlib.Core.List.{List, [], _∷_}
-use mathlib.Core.Option.{Option}
+use mathlib.Core.Option.{Option, none}
 use Prim.Native.Nat.{ℕ}
 use lib.Dec.{ltb}
+use lib.ListN.{replicate}
 use Rattle.quantity.specs.Answers.{Reading, reading, methodNumber, highestReading, refusalNumber}
 use Rattle.quantity.specs.Rules.{Rule, firstOf, Outcome, refused, given, outcome}
-use Rattle.ledger.specs.Day.{energyIn}
+use Rattle.ledger.specs.Book.{mostClasses}
+use Rattle.ledger.specs.Day.{energyIn, levelsByClass}
 use Rattle.ledger.specs.declared.Day.{Day}
 use Rattle.method.specs.Method.{distance, Counts, methodBy, methodRule, countsOf}
 use Rattle.closing.specs.Formula.{formulaBy, levelBy}
 use Rattle.closing.specs.declared.Closing as declared
+use Rattle.closing.specs.declared.Closed as closeds
 use Rattle.closing.specs.declared.CloseAnswer.{CloseAnswer}
-use Rattle.closing.specs.declared.CloseAnswer.the-variants.{Closed, Refused}
+use Rattle.closing.specs.declared.CloseAnswer.the-variants as cases
 
 -- 11: the calibration levels differ by more than 50; then 12
 abbrev pub largestDrift : ℕ
@@ -40,8 +43,8 @@ closingReading c =
     }
 
 abbrev pub closeOutcome : CloseAnswer → Outcome Closing
-closeOutcome (Closed c) = given (closingReading c)
-closeOutcome (Refused r) = refused (refusalNumber r)
+closeOutcome (cases.Closed c) = given (closingReading c)
+closeOutcome (cases.Refused r) = refused (refusalNumber r)
 
 -- a day that no rule refuses
 abbrev pub closingOf : Day → Closing
@@ -58,3 +61,21 @@ closingOf day =
 -- closing reads the day and changes nothing
 abbrev pub closed : Day → (before after : ℕ) → Outcome Closing
 closed day before after = outcome (firstOf (closeRules before after (countsOf day))) (closingOf day)
+
+-- document 02, W-201: beside the answer the highest Lmax of each class, or none
+pub record Closed : Type 0 where
+  pub answer : Outcome Closing
+  pub highestByClass : List (Option ℕ)
+
+abbrev pub closedReading : closeds.Closed → Closed
+closedReading c = record { answer = closeOutcome (c .answer); highestByClass = levelsByClass (c .«highest_by_class») }
+
+-- a refused closing has none in every class
+abbrev pub classesGiven : Day → Outcome Closing → List (Option ℕ)
+classesGiven day (given c) = levelsByClass (day .«highest_by_class»)
+classesGiven day (refused n) = replicate mostClasses none
+
+abbrev pub dayClosed : Day → (before after : ℕ) → Closed
+dayClosed day before after =
+    let answer = closed day before after in
+    record { answer = answer; highestByClass = classesGiven day answer }

@@ -8,8 +8,9 @@ ghost use Rattle.ledger.specs.Day.{energyIn};
 ghost use Rattle.method.specs.Method.{distance};
 ghost use Rattle.method.specs.Sizes.{FewIn};
 ghost use Rattle.closing.specs.Formula.{formulaOne, formulaTwo, formulaBy, levelBy};
-ghost use Rattle.closing.specs.Close.{largestDrift, closeOutcome, closed};
+ghost use Rattle.closing.specs.Close.{largestDrift, closeOutcome, closed, closedReading, dayClosed};
 use event::clock;
+use ledger::ClassHighest;
 use ledger::Day;
 use method::MethodAnswer;
 use method::Totals;
@@ -32,6 +33,12 @@ pub struct Closing {
 pub enum CloseAnswer {
     Closed(Closing),
     Refused(Refusal),
+}
+
+// A closing: its answer, and the highest Lmax of each class. A refused one has none in every class.
+pub struct Closed {
+    pub answer: CloseAnswer,
+    pub highest_by_class: [ClassHighest; 16],
 }
 
 // A formula of Ldn: the weights of the energies by day and by night, the divisor, and the offset that is taken off the level.
@@ -127,8 +134,8 @@ fn has_drifted(before: Level, after: Level) -> bool
     LARGEST_DRIFT < method::distance_between(before.0 as u64, after.0 as u64)
 }
 
-// Closes a day with the calibration levels before and after. The day is read alone: more offers may follow.
-pub fn close_day(day: Day, before: Level, after: Level) -> CloseAnswer
+// What closing answers, with the calibration levels before and after.
+fn answer_of(day: Day, before: Level, after: Level) -> CloseAnswer
     ensures { λ r. ⌜ closeOutcome r ≡ closed day (before .0) (after .0) ⌝ }
 {
     if has_drifted(before, after) {
@@ -149,5 +156,23 @@ pub fn close_day(day: Day, before: Level, after: Level) -> CloseAnswer
                 highest,
             })
         }
+    }
+}
+
+// Closes a day with the calibration levels before and after. The day is read alone: more offers may follow.
+pub fn close_day(day: Day, before: Level, after: Level) -> Closed
+    ensures { λ r. ⌜ closedReading r ≡ dayClosed day (before .0) (after .0) ⌝ }
+{
+    let highest_by_class = day.highest_by_class;
+    let answer = answer_of(day, before, after);
+    match answer {
+        CloseAnswer::Refused(_) => Closed {
+            answer,
+            highest_by_class: ledger::none_by_class(),
+        },
+        CloseAnswer::Closed(_) => Closed {
+            answer,
+            highest_by_class,
+        },
     }
 }

@@ -59,7 +59,7 @@ fresh-period-fits flights narrow =
 
 fresh-fits : (daytime night : List ℕ) → length daytime ≤ mostClasses → Narrow daytime → Narrow night → DayFits (freshDay daytime night)
 fresh-fits daytime night h by-day by-night =
-    record { classes = omega (arith, h); daytime = fresh-period-fits daytime by-day; night = fresh-period-fits night by-night }
+    record { classes = omega (arith, h); daytime = fresh-period-fits daytime by-day; night = fresh-period-fits night by-night; byClass = refl }
 
 few-flights : (daytime night : List ℕ) → isBookInvalid daytime night ≡ false → sumOf daytime + sumOf night ≤ mostFlights
 few-flights daytime night h =
@@ -99,8 +99,8 @@ period-fits d true f = f .daytime
 period-fits d false f = f .night
 
 with-period-fits : (d : Day) (b : Bool) (p : Period) → DayFits d → PeriodFits p → DayFits (withPeriod d b p)
-with-period-fits d true p f g = record { classes = f .classes; daytime = g; night = f .night }
-with-period-fits d false p f g = record { classes = f .classes; daytime = f .daytime; night = g }
+with-period-fits d true p f g = record { classes = f .classes; daytime = g; night = f .night; byClass = f .byClass }
+with-period-fits d false p f g = record { classes = f .classes; daytime = f .daytime; night = g; byClass = f .byClass }
 
 -- an accepted event had a flight left in the book
 pub offered-fits : OfferedLaw
@@ -113,5 +113,5 @@ offered-fits d o f = go (firstOf (dayChecks d o)) refl
         let left = leb-false _ _ (pass (dayChecks d o) (search needs) h .1 .1 .1 .1 .1 .1 .1 .1 .0) in
         let with-event = with-event-fits (periodOf d by-day) (r .class) (energyOf (o .samples)) (period-fits d by-day f) left in
         let next = with-period-fits d by-day _ f with-event in
-        record { classes = next .classes; daytime = next .daytime; night = next .night }
+        record { classes = next .classes; daytime = next .daytime; night = next .night; byClass = rw length-set (next .byClass) }
     go (suc n) h = f

@@ -1,8 +1,8 @@
 -- A day as 320 words of 32 bits: for each period the flights of the book and the accepted events by class, and the limbs of its sum; then the number of
--- classes, the end, whether there is a highest level, and that level; then words that are 0.
+-- classes, the end, whether there is a highest level, and that level; for each class the same of its own highest level; then words that are 0.
 use mathlib.Core.Bool.{cond}
 use mathlib.Core.List.{List, [], _∷_, _++_, map}
-use Prim.Native.Nat.{ℕ, _+_, _%_, _<_}
+use Prim.Native.Nat.{ℕ, zero, suc, _+_, _%_, _<_}
 use mathlib.Core.Path.{_≡_}
 use lib.Dec.{eqb}
 use lib.ListN.{length, take, drop, getD, replicate}
@@ -11,6 +11,7 @@ use Rattle.quantity.specs.declared.HighestLevel.the-variants as highests
 use Rattle.ledger.specs.Day.{timeAt, opened}
 use Rattle.ledger.specs.Offer.{Offering, offered}
 use Rattle.ledger.specs.declared.Period.{Period}
+use Rattle.ledger.specs.declared.ClassHighest.{ClassHighest}
 use Rattle.ledger.specs.declared.Day.{Day}
 
 abbrev pub wordCount : ℕ
@@ -29,9 +30,16 @@ highestWords highests.Nothing = 0 ∷ 0 ∷ []
 abbrev pub restWords : Day → List ℕ
 restWords d = d .classes ∷ d .end .0 ∷ highestWords (d .highest)
 
--- the words of a day: 76 that are used, and 244 that are 0
+-- the highest level of each class: 2 words a class
+abbrev pub classWords : List ClassHighest → List ℕ
+classWords [] = []
+classWords (c ∷ cs) = highestWords (c .level) ++ classWords cs
+
+-- the words of a day: 108 that are used, and 212 that are 0
 unfoldable pub dayWords : Day → List ℕ
-dayWords d = periodWords (d .daytime) ++ (periodWords (d .night) ++ (restWords d ++ replicate 244 0))
+dayWords d =
+    periodWords (d .daytime)
+    ++ (periodWords (d .night) ++ (restWords d ++ (classWords (d .«highest_by_class») ++ replicate 212 0)))
 
 -- words from a place on; counts from a place on, each word modulo 2^16
 abbrev pub wordsAt : (words : List ℕ) (at count : ℕ) → List ℕ
@@ -51,6 +59,11 @@ periodFrom words at =
 abbrev pub highestMarked : (mark level : ℕ) → HighestLevel
 highestMarked mark level = cond (eqb mark 0) highests.Nothing (highests.At (record { 0 = level }))
 
+unfoldable pub classesFrom : List ℕ → (at count : ℕ) → List ClassHighest
+classesFrom words at zero = []
+classesFrom words at (suc k) =
+    record { level = highestMarked (getD words at 0) (getD words (at + 1) 0) } ∷ classesFrom words (at + 2) k
+
 unfoldable pub dayFrom : List ℕ → Day
 dayFrom words =
     record {
@@ -59,6 +72,7 @@ dayFrom words =
       night = periodFrom words 36;
       end = timeAt (getD words 73 0);
       highest = highestMarked (getD words 74 0) (getD words 75 0);
+      «highest_by_class» = classesFrom words 76 16;
     }
 
 -- a day whose lists have the places of their arrays, whose classes fit into 8 bits and whose counts into 16, as every day has that a program holds
@@ -76,6 +90,7 @@ pub record DayFits (d : Day) : Type 0 where
   pub classes : d .classes < 256
   pub daytime : PeriodFits (d .daytime)
   pub night : PeriodFits (d .night)
+  pub byClass : length (d .«highest_by_class») ≡ 16
 
 -- the words of a day stand for that very day
 abbrev pub InverseLaw : Type 0

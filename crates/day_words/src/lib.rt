@@ -4,7 +4,21 @@ ghost use mathlib.Core.Path.{_≡_};
 ghost use Prim.Native.Nat.{_+_, _%_, _≤_};
 ghost use lib.ListN.{length};
 ghost use Rattle.runs.specs.Put.{Put};
-ghost use Rattle.day_words.specs.Words.{wordCount, periodWords, restWords, dayWords, wordsAt, countsAt, periodFrom, highestMarked, dayFrom};
+ghost use Rattle.day_words.specs.Words.{
+  wordCount,
+  periodWords,
+  highestWords,
+  restWords,
+  classWords,
+  dayWords,
+  wordsAt,
+  countsAt,
+  periodFrom,
+  highestMarked,
+  classesFrom,
+  dayFrom,
+};
+use ledger::ClassHighest;
 use ledger::Day;
 use ledger::Period;
 use quantity::HighestLevel;
@@ -31,6 +45,8 @@ const HIGHEST_MARK: usize = 74;
 
 const HIGHEST: usize = 75;
 
+const HIGHEST_BY_CLASS: usize = 76;
+
 // Puts a period, 36 words.
 fn put_period(words: &mut [u32; 320], at: usize, period: Period) -> usize
     requires { ⌜ at + 36 ≤ wordCount ⌝ }
@@ -45,17 +61,41 @@ fn put_period(words: &mut [u32; 320], at: usize, period: Period) -> usize
     runs::put_words(words, second, &sum)
 }
 
+// A highest level: whether there is one, and that level.
+fn highest_words(highest: HighestLevel) -> [u32; 2]
+    ensures { λ r. ⌜ r ≡ highestWords highest ⌝ }
+{
+    match highest {
+        HighestLevel::Nothing => [0, 0],
+        HighestLevel::At(level) => [1, level.0],
+    }
+}
+
 // The four words behind the periods.
 fn rest_of(day: Day) -> [u32; 4]
     ensures { λ r. ⌜ r ≡ restWords day ⌝ }
 {
-    let classes = day.classes as u32;
-    let end = day.end.0;
-    let highest = day.highest;
-    match highest {
-        HighestLevel::Nothing => [classes, end, 0, 0],
-        HighestLevel::At(level) => [classes, end, 1, level.0],
+    let so_far = day.highest;
+    let highest = highest_words(so_far);
+    [day.classes as u32, day.end.0, highest[0], highest[1]]
+}
+
+// Puts the highest level of each class, 32 words.
+fn put_classes(words: &mut [u32], at: usize, levels: [ClassHighest; 16]) -> usize
+    requires { ⌜ at + 32 ≤ length (now words) ⌝ }
+    ensures { λ r. ⌜ Put (now (words .entry)) at (classWords levels) (now (words .exit)) r ⌝ }
+    ensures place { λ r. ⌜ r ≡ at + 32 ⌝ }
+{
+    let mut place = at;
+    let mut i = 0;
+    while i < 16 {
+        let class = levels[i];
+        let highest = class.level;
+        let pair = highest_words(highest);
+        place = runs::put_words(words, place, &pair);
+        i += 1;
     }
+    place
 }
 
 // Writes the words of a day.
@@ -65,10 +105,12 @@ pub fn encode(day: Day, words: &mut [u32; 320])
     let daytime = day.daytime;
     let night = day.night;
     let rest = rest_of(day);
+    let levels = day.highest_by_class;
     *words = [0u32; 320];
     let first = put_period(words, DAYTIME, daytime);
     let second = put_period(words, first, night);
-    runs::put_words(words, second, &rest);
+    let third = runs::put_words(words, second, &rest);
+    put_classes(words, third, levels);
 }
 
 fn narrow(word: u32) -> u16
@@ -120,6 +162,23 @@ fn highest_from(mark: u32, level: u32) -> HighestLevel
     HighestLevel::At(Level(level))
 }
 
+// The highest Lmax of each class, from a place on.
+fn classes_at(words: &[u32], at: usize) -> [ClassHighest; 16]
+    requires { ⌜ at + 32 ≤ length (now words) ⌝ }
+    ensures { λ r. ⌜ r ≡ classesFrom (now (words .entry)) at 16 ⌝ }
+{
+    let mut levels = ledger::none_by_class();
+    let mut i = 0;
+    while i < 16 {
+        let place = at + 2 * i;
+        levels[i] = ClassHighest {
+            level: highest_from(words[place], words[place + 1]),
+        };
+        i += 1;
+    }
+    levels
+}
+
 // The day that some words stand for.
 pub fn decode(words: &[u32; 320]) -> Day
     ensures { λ r. ⌜ r ≡ dayFrom (now (words .entry)) ⌝ }
@@ -130,5 +189,6 @@ pub fn decode(words: &[u32; 320]) -> Day
         night: period_at(words, NIGHT),
         end: Time(words[END]),
         highest: highest_from(words[HIGHEST_MARK], words[HIGHEST]),
+        highest_by_class: classes_at(words, HIGHEST_BY_CLASS),
     }
 }

@@ -64,11 +64,9 @@ fn append_left(text: &mut [u8], at: usize, day: Day) -> usize
     ensures { λ r. ⌜ Counts r (now (text .exit)) ⌝ }
     ensures whole { λ _. ⌜ length (now (text .exit)) ≡ length (now (text .entry)) ⌝ }
 {
-    append_line(
-        text,
-        at,
-        Came::Closed(closing::close_day(day, Level(9400), Level(9400))),
-    )
+    let closed = closing::close_day(day, Level(9400), Level(9400));
+    let answer = closed.answer;
+    append_line(text, at, Came::Closed(answer))
 }
 
 // How much of a file is delivered after a step: where more was needed, a piece more.

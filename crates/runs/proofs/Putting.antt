@@ -4,7 +4,7 @@ use mathlib.Core.List.{List, [], _++_, append-assoc, append-nil}
 use Prim.Native.Nat.{ℕ, _+_, _≤_, _<_}
 use native.Mathlib.Numerals.{add-one}
 use native.Mathlib.Omega.{arith}
-use lib.ListN.{length, take, drop, set, getD, length-append, length-drop, length-set}
+use lib.ListN.{length, take, drop, set, getD, length-append, length-drop, length-set, take-append-drop}
 use lib.Seq.{paste, paste-zero, paste-suc, length-take-le, take-length, take-at, drop-at, drop-drop, drop-length}
 use Rattle.runs.specs.Put.{Put}
 
@@ -31,8 +31,8 @@ module _ {before : List ℕ} {at : ℕ} {numbers run : List ℕ} {i : ℕ} (p : 
       let all : i ≡ length numbers = omega (arith, p .within) in
       record { end = omega arith; inside = omega arith; run = rw (p .put, all, take-length) }
 
-pub nothing-put : {before : List ℕ} → Put before 0 [] before 0
-nothing-put = record { end = refl; inside = omega arith; run = refl }
+pub nothing-put : {before : List ℕ} {at : ℕ} → at ≤ length before → Put before at [] before at
+nothing-put {before} {at} h = record { end = omega arith; inside = h; run = rw (append-nil (take at before)) (sym (take-append-drop at before)) }
 
 module _ {before : List ℕ} {at : ℕ} {numbers after : List ℕ} {behind : ℕ} (p : Put before at numbers after behind) where
   front : length (take at before ++ numbers) ≡ behind

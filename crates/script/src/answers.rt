@@ -3,13 +3,13 @@ use crate::words;
 
 // Some text: the bytes up to the count.
 pub struct Text {
-    pub bytes: [u8; 64],
+    pub bytes: [u8; 128],
     pub count: usize,
 }
 
 pub fn nothing() -> Text {
     Text {
-        bytes: [0u8; 64],
+        bytes: [0u8; 128],
         count: 0,
     }
 }
@@ -18,7 +18,7 @@ pub fn nothing() -> Text {
 fn with_byte(text: Text, byte: u8) -> Text {
     let mut bytes = text.bytes;
     let count = text.count;
-    if count < 64 {
+    if count < 128 {
         bytes[count] = byte;
         return Text {
             bytes,

@@ -57,25 +57,61 @@ fn offer(day: &mut [u32; 320], numbers: &[u32], words: Words) -> Text {
     with_value(with_value(answered(answer), answer, exposure), answer, lmax)
 }
 
-// close BEFORE AFTER
-fn close(day: &[u32; 320], numbers: &[u32]) -> Text {
+// What a closing answers, and what it leaves in what it was lent.
+struct Closed {
+    answer: u8,
+    day_record: u64,
+    counts: [u32; 3],
+    highest_by_class: [u32; 16],
+}
+
+// Closes a day at the calibration levels of a line. Before the call 7 stands in the place of each class.
+fn close_day(day: &[u32; 320], numbers: &[u32]) -> Closed {
     let mut day_record = 0;
     let mut counts = [0u32; 3];
+    let mut highest_by_class = [7u32; 16];
     let answer = c_interface::moatburdock_close_day(
         day,
         words::number_at(numbers, 0),
         words::number_at(numbers, 1),
         &mut day_record,
         &mut counts,
+        &mut highest_by_class,
     );
-    if answer != 0 {
-        return answered(answer);
+    Closed {
+        answer,
+        day_record,
+        counts,
+        highest_by_class,
     }
-    let ldn = answers::with_level(answered(answer), (day_record % UPPER) as u32);
-    let method = answers::with_number(ldn, day_record / UPPER);
+}
+
+// close BEFORE AFTER
+fn close(day: &[u32; 320], numbers: &[u32]) -> Text {
+    let closed = close_day(day, numbers);
+    if closed.answer != 0 {
+        return answered(closed.answer);
+    }
+    let counts = closed.counts;
+    let ldn = answers::with_level(answered(closed.answer), (closed.day_record % UPPER) as u32);
+    let method = answers::with_number(ldn, closed.day_record / UPPER);
     let by_day = answers::with_count(method, counts[0]);
     let by_night = answers::with_count(by_day, counts[1]);
     answers::with_level(by_night, counts[2])
+}
+
+// highest BEFORE AFTER: closes, and shows what then stands in the place of each class
+fn highest_by_class(day: &[u32; 320], numbers: &[u32]) -> Text {
+    let closed = close_day(day, numbers);
+    let levels = closed.highest_by_class;
+    let mut text = answered(closed.answer);
+    let mut i = 0;
+    while i < 16 {
+        let next = answers::with_level(text, levels[i]);
+        text = next;
+        i += 1;
+    }
+    text
 }
 
 // The record of a day with a level, by method one.
@@ -170,6 +206,7 @@ pub fn make(day: &mut [u32; 320], call: &[u8]) -> Text {
         b'b' => open(day, &numbers, words),
         b'o' => offer(day, &numbers, words),
         b'c' => close(day, &numbers),
+        b'h' => highest_by_class(day, &numbers),
         b'w' => week(&numbers, words.count),
         b'y' => year(&numbers, words.count),
         b'r' => rewrite(&numbers),

@@ -4,7 +4,7 @@
 //     LABEL: CALL WORDS = ANSWER          a call; answers that are right are separated by '|', and one that is plausible and wrong stands behind ', not'
 //     TEXT                                a line without ':' is a heading
 //
-// The calls are told by their first letter: book, offer, close, week, year, rewrite, verdict, land.
+// The calls are told by their first letter: book, offer, close, highest, week, year, rewrite, verdict, land.
 ghost use mathlib.Core.Path.{_≡_};
 ghost use mathlib.Core.Bool.{cond};
 ghost use Prim.Native.Nat.{_≤_};

@@ -6,7 +6,9 @@ use Rattle.day_words.proofs.decode.Tie as tie
 
 returns : tie.Need-returns
 unfolding dayFrom
-returns c = let night = c .before .before .before .before in rw (night .before .before .period-at .ensures, night .period-at2 .ensures, c .highest-from .ensures)
+returns c =
+    let night = c .before .before .before .before .before .before in
+    rw (night .before .before .period-at .ensures, night .period-at2 .ensures, c .before .before .highest-from .ensures, c .classes-at .ensures)
 
 pub decode-spec : {M : Type 1} → statement M
 decode-spec =
@@ -19,5 +21,6 @@ decode-spec =
     (λ c. search needs)
     (λ c. search needs)
     (λ c. search needs)
+    (λ c κs. search needs)
     (λ c κs. search needs)
     returns)

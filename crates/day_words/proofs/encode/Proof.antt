@@ -11,12 +11,14 @@ slice-aggregate-put-words c = search needs
 
 returns : tie.Need-returns
 returns c =
-    let second = c .before .before .before in
+    let third = c .before .before in
+    let second = third .before .before .before in
     let first = second .before .before in
-    let rest = first .before .before .before in
+    let rest = first .before .before .before .before in
     let day = rest .before .before .before .args .day in
-    let put = then (first .put-period .ensures .0) (then (second .put-period2 .ensures .0) (rw (rest .rest-of .ensures) at (c .put-words .ensures))) in
-    put-day day put (omega (arith, slice-aggregate-put-words (c .before)))
+    let behind = then (rw (rest .rest-of .ensures) at (third .put-words .ensures)) (c .put-classes .ensures .0) in
+    let put = then (first .put-period .ensures .0) (then (second .put-period2 .ensures .0) behind) in
+    put-day day put (omega (arith, slice-aggregate-put-words (third .before)))
 
 pub encode-spec : {M : Type 1} → statement M
 encode-spec =
@@ -26,5 +28,6 @@ encode-spec =
     (λ c κs. search needs)
     (λ c κs. search needs)
     slice-aggregate-put-words
+    (λ c κs. search needs)
     (λ c κs. search needs)
     returns)
