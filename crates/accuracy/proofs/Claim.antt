@@ -1,5 +1,5 @@
 -- Demand 3 for offers and closings, over every list of calls, and the laws beside it.
-use mathlib.Core.Path.{_≡_, refl, sym, subst, _∙_}
+use mathlib.Core.Path.{_≡_, refl, sym, subst}
 use mathlib.Core.List.{List, [], _∷_}
 use Prim.Native.Nat.{ℕ, _≤_}
 use Rattle.ledger.specs.declared.Day.{Day}
@@ -8,7 +8,7 @@ use Rattle.accuracy.specs.Terminal.{dayAfterCalls, dayAfter}
 use Rattle.accuracy.specs.Demand.{Demanded, Claim}
 use Rattle.accuracy.specs.Laws.{Always, Apart, holders, WithinBook, Highest}
 use Rattle.accuracy.proofs.Held.{at-most-one}
-use Rattle.accuracy.proofs.Highest.{highest-of-stretches, by-class, beyond-first, largest-of-classes}
+use Rattle.accuracy.proofs.Highest.{highest-of-tally}
 use Rattle.accuracy.proofs.Agreement.{dayOfTally, Bounded, Agrees, fresh, period-of-tally, book-at, count-at, sum-whole}
 use Rattle.accuracy.proofs.Offers.{offer-keeps, offer-demanded}
 use Rattle.accuracy.proofs.Closings.{close-demanded}
@@ -59,14 +59,7 @@ counted-once instant daytime night h calls =
 
 -- the day's highest levels are those of the stretches
 pub highest-held : Always Highest
-highest-held =
-    always Highest (λ t b.
-    record {
-      single = highest-of-stretches (t .stretches);
-      byClass = by-class (t .stretches) (b .most) (b .classes);
-      largestOfAll = highest-of-stretches (t .stretches) ∙ sym (largest-of-classes (t .stretches) (b .most) (b .classes));
-      beyond = beyond-first (t .stretches) (b .most) (b .classes);
-    })
+highest-held = always Highest (λ t b. highest-of-tally b)
 
 -- demand 3 for offers and closings
 pub claim : Claim

@@ -1,5 +1,5 @@
 -- A closing: the day's counts and sums are the tally's, and its level has both bounds.
-use mathlib.Core.Path.{_≡_, refl, sym, subst, _∙_}
+use mathlib.Core.Path.{_≡_, refl, sym, subst}
 use mathlib.Core.Bool.{Bool, true, false, cond}
 use Prim.Native.Nat.{ℕ, zero, suc, _+_}
 use native.Mathlib.Omega.{arith}
@@ -17,7 +17,7 @@ use Rattle.accuracy.specs.Tally.{Tally, tallyCounts, heldSamples}
 use Rattle.accuracy.specs.Demand.{CloseDemanded}
 use Rattle.accuracy.specs.Laws.{periodEnergy}
 use Rattle.accuracy.proofs.Sums.{weighted-held}
-use Rattle.accuracy.proofs.Highest.{highest-of-stretches, by-class, largest-of-classes}
+use Rattle.accuracy.proofs.Highest.{highest-of-tally}
 use Rattle.accuracy.proofs.Agreement.{highestOfStretches, dayOfTally, Bounded, book-at, count-at, book-sum, count-sum, sum-whole}
 
 -- the numbers that choose the method are the tally's
@@ -69,14 +69,15 @@ module _ {t : Tally} (b : Bounded t) (before after : ℕ) where
           let f = formulaBy (methodBy c) (c .totals) in
           let weight : Bool → ℕ = λ p. cond p (f .daytime) (f .night) in
           let rules = pass (closeRules before after c) (search needs) h in
+          let highest = highest-of-tally b in
           let positive = divisor-positive c (not-false _ (rules .1 .0)) in (
             h,
             refl,
             refl,
             refl,
-            highest-of-stretches (t .stretches),
-            by-class (t .stretches) (b .most) (b .classes),
-            highest-of-stretches (t .stretches) ∙ sym (largest-of-classes (t .stretches) (b .most) (b .classes)),
+            highest .single,
+            highest .byClass,
+            highest .largestOfAll,
             rw (weighted-held weight (t .stretches)) at
                 (accurate K (heldSamples weight (t .stretches)) (f .offset) (f .divisor) positive),
           )

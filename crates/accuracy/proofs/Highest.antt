@@ -17,9 +17,9 @@ use Rattle.ledger.specs.Book.{mostClasses}
 use Rattle.ledger.specs.Day.{levelsByClass}
 use Rattle.ledger.specs.Offer.{raised, raisedInClass}
 use Rattle.ledger.specs.declared.ClassHighest.{ClassHighest}
-use Rattle.accuracy.specs.Tally.{Held}
-use Rattle.accuracy.specs.Laws.{larger, highestHeld, ofClass, ByClass, largest}
-use Rattle.accuracy.proofs.Agreement.{highestOfStretches, classesOfStretches, OfFirst}
+use Rattle.accuracy.specs.Tally.{Held, Tally}
+use Rattle.accuracy.specs.Laws.{larger, highestHeld, ofClass, ByClass, largest, Highest}
+use Rattle.accuracy.proofs.Agreement.{highestOfStretches, classesOfStretches, dayOfTally, OfFirst, Bounded}
 
 -- a level is raised to the larger of two
 raised-reading : (top : HighestLevel) (c : ℕ) → highestReading (raised top (record { 0 = c })) ≡ larger (highestReading top) (some c)
@@ -29,7 +29,7 @@ raised-reading (highests.At l) c =
     (λ t. rw t (ap some (omega (arith, ltb-true (l .0) c t))))
     (λ f. rw f (ap some (omega (arith, ltb-false (l .0) c f))))
 
-pub highest-of-stretches : (hs : List Held) → highestReading (highestOfStretches hs) ≡ highestHeld hs
+highest-of-stretches : (hs : List Held) → highestReading (highestOfStretches hs) ≡ highestHeld hs
 highest-of-stretches [] = refl
 highest-of-stretches (h ∷ hs) =
     raised-reading (highestOfStretches hs) (highest (h .levels))
@@ -61,7 +61,7 @@ none-at (suc n) zero = refl
 none-at (suc n) (suc k) = none-at n k
 
 -- each class has the highest level of its own stretches
-pub by-class : {n : ℕ} (hs : List Held) → n ≤ mostClasses → OfFirst n hs → ByClass hs (classLevels hs)
+by-class : {n : ℕ} (hs : List Held) → n ≤ mostClasses → OfFirst n hs → ByClass hs (classLevels hs)
 by-class [] l p class = none-at mostClasses class
 by-class (h ∷ hs) l p class =
     let so-far : ByClass hs (classLevels hs) = by-class hs l (p .1) in
@@ -75,7 +75,7 @@ none-held : {n : ℕ} (hs : List Held) → OfFirst n hs → (class : ℕ) → n 
 none-held [] p class l = refl
 none-held (h ∷ hs) p class l = rw (ne-eqb (h .class) class (λ e. omega (arith, p .0))) (none-held hs (p .1) class l)
 
-pub beyond-first : {n : ℕ} (hs : List Held) → n ≤ mostClasses → OfFirst n hs → (class : ℕ) → n ≤ class → getD (classLevels hs) class none ≡ none
+beyond-first : {n : ℕ} (hs : List Held) → n ≤ mostClasses → OfFirst n hs → (class : ℕ) → n ≤ class → getD (classLevels hs) class none ≡ none
 beyond-first hs m p class l = by-class hs m p class ∙ ap highestHeld (none-held hs p class l)
 
 -- the largest of all levels, one of which is raised
@@ -100,10 +100,21 @@ largest-raised (x ∷ xs) zero c h =
 largest-raised (x ∷ xs) (suc k) c h = ap (larger x) (largest-raised xs k c (omega arith)) ∙ larger-later x (largest xs) (some c)
 
 -- the single highest level is the largest of the classes'
-pub largest-of-classes : {n : ℕ} (hs : List Held) → n ≤ mostClasses → OfFirst n hs → largest (classLevels hs) ≡ highestHeld hs
+largest-of-classes : {n : ℕ} (hs : List Held) → n ≤ mostClasses → OfFirst n hs → largest (classLevels hs) ≡ highestHeld hs
 largest-of-classes [] l p = refl
 largest-of-classes (h ∷ hs) l p =
     let c = highest (h .levels) in
     ap largest (level-more h hs)
     ∙ largest-raised (classLevels hs) (h .class) c (omega (arith, l, p .0, sixteen hs))
     ∙ ap (λ (top : Option ℕ). larger top (some c)) (largest-of-classes hs l (p .1))
+
+-- all of it, of the day that a tally gives
+pub highest-of-tally : {t : Tally} → Bounded t → Highest t (dayOfTally t)
+highest-of-tally {t} b =
+    let single = highest-of-stretches (t .stretches) in
+    record {
+      single = single;
+      byClass = by-class (t .stretches) (b .most) (b .classes);
+      largestOfAll = single ∙ sym (largest-of-classes (t .stretches) (b .most) (b .classes));
+      beyond = beyond-first (t .stretches) (b .most) (b .classes);
+    }
