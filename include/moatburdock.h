@@ -11,7 +11,7 @@
  * argument of the call. Any words make a day; words that are all 0 make a day of no class, on which every offer is refused by 3 and every closing by 12.
  *
  * What each function computes is an equation that is proved for every argument: crates/c_interface/specs/Calls.antt, over the definitions of
- * crates/ledger, closing, mean and land; of the reader crates/c_reader/specs/Calls.antt, over those of crates/steps. */
+ * crates/ledger, offering, closing, mean and land; of the reader crates/c_reader/specs/Calls.antt, over those of crates/steps. */
 #ifndef MOATBURDOCK_H
 #define MOATBURDOCK_H
 

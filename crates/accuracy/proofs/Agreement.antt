@@ -21,7 +21,7 @@ use Rattle.event.specs.Clock.{dayTicks}
 use Rattle.event.specs.Window.{highest}
 use Rattle.ledger.specs.Book.{mostClasses, sumOf, padded, bookRules}
 use Rattle.ledger.specs.Day.{noneByClass, freshDay, periodOf}
-use Rattle.ledger.specs.Offer.{raised, raisedInClass}
+use Rattle.offering.specs.Offer.{raised, raisedInClass}
 use Rattle.ledger.specs.declared.Period.{Period}
 use Rattle.ledger.specs.declared.ClassHighest.{ClassHighest}
 use Rattle.ledger.specs.declared.Day.{Day}

@@ -15,7 +15,7 @@ use Rattle.quantity.proofs.Tests.{test}
 use Rattle.event.specs.Window.{highest}
 use Rattle.ledger.specs.Book.{mostClasses}
 use Rattle.ledger.specs.Day.{levelsByClass}
-use Rattle.ledger.specs.Offer.{raised, raisedInClass}
+use Rattle.offering.specs.Offer.{raised, raisedInClass}
 use Rattle.ledger.specs.declared.ClassHighest.{ClassHighest}
 use Rattle.accuracy.specs.Tally.{Held, Tally}
 use Rattle.accuracy.specs.Laws.{larger, highestHeld, ofClass, ByClass, largest, Highest}

@@ -21,7 +21,8 @@ use Rattle.event.proofs.Accuracy.{exposure-accurate}
 use Rattle.event.proofs.Whole.{in-window, peak-inside}
 use Rattle.ledger.specs.Book.{mostClasses}
 use Rattle.ledger.specs.Day.{periodOf, withPeriod, Answered}
-use Rattle.ledger.specs.Offer.{Offering, Accepted, offered, admitted, dayChecks, usedUp, withEvent, entered, raised, raisedInClass}
+use Rattle.admission.specs.Checks.{Offering, dayChecks, usedUp}
+use Rattle.offering.specs.Offer.{Accepted, offered, admitted, withEvent, entered, raised, raisedInClass}
 use Rattle.ledger.specs.declared.Period.{Period}
 use Rattle.ledger.specs.declared.ClassHighest.{ClassHighest}
 use Rattle.ledger.specs.declared.Day.{Day}

@@ -20,7 +20,7 @@ use Rattle.event.specs.Stretch.{stretchFirst, stretchEnd, stretchOf}
 use Rattle.decades.specs.Decades.{energies}
 use Rattle.event.proofs.Runs.{peaks, highest-above}
 use Rattle.event.proofs.Whole.{any-above, in-window, peak-inside}
-use Rattle.ledger.specs.Offer.{Offering, offerChecks}
+use Rattle.admission.specs.Checks.{Offering, offerChecks}
 use Rattle.quantity.proofs.Tests.{neither}
 use Rattle.accuracy.proofs.Lists.{highest-slice, energies-most}
 

@@ -9,7 +9,8 @@ use Rattle.level.specs.Accuracy.{Accurate, weigh}
 use Rattle.event.specs.Clock.{samplesASecond}
 use Rattle.event.specs.Window.{highest}
 use Rattle.event.specs.Stretch.{stretchOf}
-use Rattle.ledger.specs.Offer.{Offering, Accepted, offered}
+use Rattle.admission.specs.Checks.{Offering}
+use Rattle.offering.specs.Offer.{Accepted, offered}
 use Rattle.ledger.specs.declared.Day.{Day}
 use Rattle.method.specs.Method.{methodBy}
 use Rattle.closing.specs.Formula.{formulaBy}

@@ -9,7 +9,7 @@ use Rattle.level.specs.Accuracy.{Sample, weigh}
 use Rattle.event.specs.Event.{eventOf}
 use Rattle.event.specs.Stretch.{stretchOf, stretchFirst, stretchEnd}
 use Rattle.ledger.specs.Book.{sumOf}
-use Rattle.ledger.specs.Offer.{Offering, offerChecks, inDaytime}
+use Rattle.admission.specs.Checks.{Offering, offerChecks, inDaytime}
 use Rattle.method.specs.Method.{Counts}
 use Rattle.method.specs.declared.Count.{Count}
 

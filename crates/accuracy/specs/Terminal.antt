@@ -1,6 +1,6 @@
 -- The terminal over lists of calls: the day that a list leaves, by the definition that the contract of an offer cites.
 use mathlib.Core.List.{List, [], _∷_}
-use Rattle.ledger.specs.Offer.{offered}
+use Rattle.offering.specs.Offer.{offered}
 use Rattle.ledger.specs.declared.Day.{Day}
 use Rattle.accuracy.specs.Tally.{Call, offering, closing}
 

@@ -19,7 +19,8 @@ use Rattle.quantity.proofs.Tests.{neither, test}
 use Rattle.level.specs.Level.{levelOf}
 use Rattle.ledger.specs.Book.{mostClasses, sumOf}
 use Rattle.ledger.specs.Day.{freshDay, levelsByClass}
-use Rattle.ledger.specs.Offer.{Offering, Accepted, dayChecks, offered}
+use Rattle.admission.specs.Checks.{Offering, dayChecks}
+use Rattle.offering.specs.Offer.{Accepted, offered}
 use Rattle.ledger.specs.declared.ClassHighest.{ClassHighest}
 use Rattle.ledger.specs.declared.Day.{Day}
 use Rattle.method.specs.Method.{methodOneHolds, methodBy, countsOf}

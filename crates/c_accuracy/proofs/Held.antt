@@ -19,7 +19,8 @@ use Rattle.event.specs.Event.{eventOf, energyOf}
 use Rattle.event.specs.Window.{highest}
 use Rattle.ledger.specs.Book.{mostClasses, bookRules}
 use Rattle.ledger.specs.Day.{Answered, noneInClass, freshDay, noDay, periodOf, withPeriod, energyIn}
-use Rattle.ledger.specs.Offer.{Offering, Accepted, dayChecks, inDaytime, withEvent, raised, raisedInClass, admitted, offered}
+use Rattle.admission.specs.Checks.{Offering, dayChecks, inDaytime}
+use Rattle.offering.specs.Offer.{Accepted, withEvent, raised, raisedInClass, admitted, offered}
 use Rattle.ledger.specs.declared.ClassHighest.{ClassHighest}
 use Rattle.ledger.specs.declared.Day.{Day}
 use Rattle.ledger.specs.declared.Period.{Period}

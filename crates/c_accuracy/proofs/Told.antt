@@ -22,7 +22,7 @@ use Rattle.event.specs.Event.{energyOf, exposureOf}
 use Rattle.event.specs.Stretch.{stretchEnd}
 use Rattle.event.proofs.Whole.{in-window}
 use Rattle.ledger.specs.Book.{sumOf}
-use Rattle.ledger.specs.Offer.{Offering, offerChecks}
+use Rattle.admission.specs.Checks.{Offering, offerChecks}
 use Rattle.mean.specs.Mean.{anyTooHigh, sumOfPowers}
 use Rattle.accuracy.proofs.Windows.{stretch-energy, admits}
 use Rattle.c_interface.specs.Numbers.{Told}

@@ -1,7 +1,7 @@
 -- Lists of calls through C on the words of a day: what they leave in the words.
 use mathlib.Core.List.{List, [], _∷_}
 use Prim.Native.Nat.{ℕ}
-use Rattle.ledger.specs.Offer.{Offering}
+use Rattle.admission.specs.Checks.{Offering}
 use Rattle.accuracy.specs.Tally.{Call, offering, closing}
 use Rattle.c_interface.specs.Calls.{OfferLent, CloseLent, openLeaves, offerLeaves}
 

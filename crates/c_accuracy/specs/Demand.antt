@@ -7,7 +7,7 @@ use lib.ListN.{getD}
 use Rattle.quantity.specs.Answers.{Reading}
 use Rattle.quantity.specs.Rules.{Outcome, outcome}
 use Rattle.ledger.specs.Day.{freshDay}
-use Rattle.ledger.specs.Offer.{Accepted}
+use Rattle.offering.specs.Offer.{Accepted}
 use Rattle.closing.specs.Close.{Closing}
 use Rattle.accuracy.specs.Tally.{Tally, started, tallyOf}
 use Rattle.accuracy.specs.Terminal.{dayAfterCalls}

@@ -6,7 +6,8 @@ use lib.IntN.{ℤ}
 use lib.ListN.{length, getD, set}
 use Rattle.quantity.specs.Rules.{Outcome, outcome, follow, Rule, firstOf}
 use Rattle.ledger.specs.Day.{opened, timeAt}
-use Rattle.ledger.specs.Offer.{Offering, offered}
+use Rattle.admission.specs.Checks.{Offering}
+use Rattle.offering.specs.Offer.{offered}
 use Rattle.closing.specs.Close.{Closed, dayClosed}
 use Rattle.mean.specs.Mean.{weekMeanOf, yearMeanOf, isTooHigh}
 use Rattle.mean.specs.Records.{placeRule}

@@ -37,8 +37,8 @@ use land::LandClassAnswer;
 use land::Margin;
 use land::VerdictAnswer;
 use ledger::ClassHighest;
-use ledger::OfferAnswer;
-use ledger::Recording;
+use offering::OfferAnswer;
+use admission::Recording;
 use mean::MeanAnswer;
 use mean::Total;
 use quantity::Check;
@@ -173,7 +173,7 @@ pub extern "C" fn moatburdock_offer(
         wet,
         background: Level(background),
     };
-    let offered = ledger::offer(day_words::decode(day), recording, samples);
+    let offered = offering::offer(day_words::decode(day), recording, samples);
     let answer = offered.answer;
     match answer {
         OfferAnswer::Refused(refusal) => quantity::refusal_number(refusal),

@@ -10,7 +10,7 @@ use Rattle.quantity.specs.Rules.{Outcome, refused, given, firstOf}
 use Rattle.quantity.proofs.Outcomes.{given-value, followed}
 use Rattle.quantity.proofs.Tests.{test}
 use Rattle.ledger.specs.Day.{noDay}
-use Rattle.ledger.specs.Offer.{offeringOf}
+use Rattle.admission.specs.Checks.{offeringOf}
 use Rattle.ledger.specs.declared.Day.{Day}
 use Rattle.day_words.specs.Words.{DayFits}
 use Rattle.day_words.proofs.Reached.{opened-fits, offered-fits}

@@ -4,7 +4,7 @@ use mathlib.Core.List.{List, [], _∷_, _++_}
 use Prim.Native.Nat.{ℕ}
 use lib.ListN.{length, drop, replicate}
 use Rattle.quantity.specs.Rules.{Outcome, refused, given}
-use Rattle.ledger.specs.Offer.{Accepted}
+use Rattle.offering.specs.Offer.{Accepted}
 use Rattle.closing.specs.Close.{Closing}
 use Rattle.c_interface.specs.Numbers.{levelNumber, highestNumber}
 use Rattle.c_interface.specs.Calls.{Left}

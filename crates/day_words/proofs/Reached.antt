@@ -14,10 +14,11 @@ use Rattle.quantity.proofs.Tests.{neither}
 use Rattle.limbs.proofs.Digits.{length-limbsOf}
 use Rattle.ledger.specs.Book.{sumOf, padded, mostClasses, mostFlights, isBookInvalid, bookRules}
 use Rattle.ledger.specs.Day.{Answered, freshPeriod, freshDay, noDay, periodOf, withPeriod}
-use Rattle.ledger.specs.Offer.{dayChecks, inDaytime, withEvent, admitted}
+use Rattle.admission.specs.Checks.{dayChecks, inDaytime}
+use Rattle.offering.specs.Offer.{withEvent, admitted}
 use Rattle.ledger.specs.declared.Day.{Day}
 use Rattle.ledger.specs.declared.Period.{Period}
-use Rattle.ledger.proofs.Answers.{book-fits}
+use Rattle.ledger.proofs.Books.{book-fits}
 use Rattle.event.specs.Event.{eventOf, energyOf}
 use Rattle.day_words.specs.Words.{Narrow, PeriodFits, DayFits, OpenedLaw, OfferedLaw}
 

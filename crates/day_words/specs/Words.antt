@@ -9,7 +9,8 @@ use lib.ListN.{length, take, drop, getD, replicate}
 use Rattle.quantity.specs.declared.HighestLevel.{HighestLevel}
 use Rattle.quantity.specs.declared.HighestLevel.the-variants as highests
 use Rattle.ledger.specs.Day.{timeAt, opened}
-use Rattle.ledger.specs.Offer.{Offering, offered}
+use Rattle.admission.specs.Checks.{Offering}
+use Rattle.offering.specs.Offer.{offered}
 use Rattle.ledger.specs.declared.Period.{Period}
 use Rattle.ledger.specs.declared.ClassHighest.{ClassHighest}
 use Rattle.ledger.specs.declared.Day.{Day}

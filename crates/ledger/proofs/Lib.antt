@@ -1,3 +1,3 @@
 -- The laws that the proofs of `ledger` share.
 pub mod Lists
-pub mod Answers
+pub mod Books

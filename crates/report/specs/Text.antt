@@ -6,7 +6,7 @@ use Prim.Native.Nat.{ℕ, zero, suc, _+_, _/_, _%_}
 use lib.Dec.{ltb}
 use Rattle.quantity.specs.Answers.{Reading, level, below-scale}
 use Rattle.quantity.specs.Rules.{Outcome, refused, given}
-use Rattle.ledger.specs.Offer.{Accepted}
+use Rattle.offering.specs.Offer.{Accepted}
 use Rattle.closing.specs.Close.{Closing}
 
 -- the digit of a number below ten

@@ -2,7 +2,7 @@
 ghost use mathlib.Core.List.{[], _∷_};
 ghost use Prim.Native.Nat.{_+_, _≤_};
 ghost use Rattle.quantity.specs.Answers.{reading, highestReading, refusalNumber};
-ghost use Rattle.ledger.specs.Offer.{offerOutcome};
+ghost use Rattle.offering.specs.Offer.{offerOutcome};
 ghost use Rattle.closing.specs.Close.{closingReading, closeOutcome};
 ghost use Rattle.io.specs.Counts.{Counts};
 ghost use Rattle.runs.specs.Put.{Put};
@@ -22,7 +22,7 @@ ghost use Rattle.report.specs.Text.{
 };
 use closing::CloseAnswer;
 use closing::Closing;
-use ledger::OfferAnswer;
+use offering::OfferAnswer;
 use quantity::HighestLevel;
 use quantity::Reading;
 use quantity::Refusal;

@@ -1,8 +1,8 @@
 // The calls of a script, made through the functions that C calls: each takes its arguments from the numbers of a line.
-use crate::answers;
-use crate::answers::Text;
-use crate::words;
-use crate::words::Words;
+use script_text::answers;
+use script_text::answers::Text;
+use script_text::words;
+use script_text::words::Words;
 
 // A call has at most this many numbers, and at most this many records.
 const MOST_NUMBERS: usize = 6016;

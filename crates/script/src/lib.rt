@@ -6,28 +6,20 @@
 //
 // The calls are told by their first letter: book, offer, close, highest, week, year, rewrite, verdict, land.
 ghost use mathlib.Core.Path.{_≡_};
-ghost use mathlib.Core.Bool.{cond};
 ghost use Prim.Native.Nat.{_≤_};
 ghost use lib.ListN.{length};
-ghost use Rattle.script.specs.Judging.{isOneOf, isRight, withCall};
 
-mod answers;
 mod calls;
-mod words;
 
 use libc::STDOUT_FILENO;
+use script_text::Progress;
+use script_text::words;
 
 // A line is shorter than this: 6016 numbers of five digits and their spaces are 36096 bytes.
 const LONGEST_LINE: usize = 40960;
 
 // No script has more lines.
 const MOST_LINES: u32 = 1000000;
-
-// The number of calls, and the number of those whose answer was not right.
-pub struct Progress {
-    pub calls: u32,
-    pub different: u32,
-}
 
 // A line in the buffer: from a place up to another, and where the bytes that are held end.
 struct Line {
@@ -50,50 +42,6 @@ fn show(label: &[u8], came: &[u8], should: &[u8]) {
     text(b"\n");
 }
 
-// Whether what came is one of the answers, which are separated by '|'.
-fn is_one_of(came: &[u8], answers: &[u8]) -> bool
-    ensures { λ r. ⌜ r ≡ isOneOf (now (came .entry)) (now (answers .entry)) ⌝ }
-{
-    let mut from = 0;
-    loop {
-        let to = words::place_of(answers, from, b'|');
-        if check::same(came, &answers[from..to]) {
-            return true;
-        }
-        if to == answers.len() {
-            return false;
-        }
-        from = to + 1;
-    }
-}
-
-// Whether what came is right; behind ',' no answers stand.
-fn is_right(came: &[u8], should: &[u8]) -> bool
-    ensures { λ r. ⌜ r ≡ isRight (now (came .entry)) (now (should .entry)) ⌝ }
-{
-    let end = words::place_of(should, 0, b',');
-    is_one_of(came, &should[0..end])
-}
-
-fn differences(right: bool) -> u32
-    ensures { λ r. ⌜ r ≡ cond right 0 1 ⌝ }
-{
-    if right { 0 } else { 1 }
-}
-
-// One call more, and one difference more where what came is not right.
-fn with_call(progress: Progress, came: &[u8], should: &[u8]) -> Progress
-    ensures { λ r. ⌜ r ≡ withCall progress (now (came .entry)) (now (should .entry)) ⌝ }
-{
-    Progress {
-        calls: std::num::wrapping_add_u32(progress.calls, 1),
-        different: std::num::wrapping_add_u32(
-            progress.different,
-            differences(is_right(came, should)),
-        ),
-    }
-}
-
 // Makes the call of a line whose label ends at a place, and counts it. Writes it where its answer is not right, or where every call is shown.
 fn run_call(
     day: &mut [u32; 320],
@@ -108,7 +56,7 @@ fn run_call(
     let text = calls::make(day, call);
     let bytes = text.bytes;
     let came = words::part(&bytes, 0, text.count);
-    let after = with_call(progress, came, should);
+    let after = script_text::with_call(progress, came, should);
     if shows_all {
         show(words::part(line, 0, colon), came, should);
         return after;

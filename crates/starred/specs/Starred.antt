@@ -11,7 +11,8 @@ use Rattle.quantity.specs.Rules.{Outcome, given}
 use Rattle.power.specs.Power.{m}
 use Rattle.event.specs.Event.{exposureOf}
 use Rattle.ledger.specs.Day.{opened}
-use Rattle.ledger.specs.Offer.{Offering, offered}
+use Rattle.admission.specs.Checks.{Offering}
+use Rattle.offering.specs.Offer.{offered}
 use Rattle.ledger.specs.declared.Day.{Day}
 use Rattle.closing.specs.Close.{Closing, closed}
 use Rattle.mean.specs.Mean.{weekMeanOf}

@@ -1,0 +1,82 @@
+-- What holds of an offer that no rule refuses, and what comes of an offer.
+use mathlib.Core.Path.{_≡_, refl}
+use mathlib.Core.List.{List}
+use Prim.Native.Nat.{ℕ, _+_, _≤_}
+use native.Mathlib.Omega.{arith}
+use borrow.Author.Needs.{needs}
+use borrow.Author.Tests.{ltb-false, leb-false}
+use lib.Dec.{leb, ltb}
+use lib.ListN.{length}
+use lib.Seq.{slice}
+use Rattle.quantity.specs.Answers.{Reading}
+use Rattle.quantity.specs.Limits.{highestSample}
+use Rattle.quantity.specs.Rules.{firstOf, refused, given}
+use Rattle.quantity.proofs.Refusing.{Pass, pass}
+use Rattle.quantity.proofs.Outcomes.{refused-alike, given-alike}
+use Rattle.quantity.proofs.Tests.{neither}
+use Rattle.limbs.specs.Value.{value, limbsOf}
+use Rattle.limbs.proofs.Digits.{added-modulo}
+use Rattle.decades.specs.Decades.{energies}
+use Rattle.event.specs.Window.{highest, anyAbove}
+use Rattle.event.specs.Clock.{dayTicks, longestWindow}
+use Rattle.event.specs.Event.{eventOf}
+use Rattle.event.specs.declared.Event.{Event}
+use Rattle.event.specs.Exposing.{Inside, Exposed}
+use Rattle.event.proofs.Runs.{highest-above}
+use Rattle.event.proofs.Whole.{any-above, in-window}
+use Rattle.ledger.specs.Book.{mostClasses}
+use Rattle.ledger.specs.Day.{periodOf, energyIn}
+use Rattle.ledger.specs.declared.Day.{Day}
+use Rattle.admission.specs.Checks.{Offering, inDaytime, dayChecks}
+use Rattle.admission.specs.Judging.{judgedOf}
+use Rattle.admission.specs.declared.Recording.{Recording}
+use Rattle.admission.proofs.Rules.{short-enough}
+use Rattle.offering.specs.Offer.{admitted, offered, entered}
+use Rattle.offering.specs.Entering.{Admissible}
+
+-- what holds of an offer that no rule refuses
+module _ (day : Day) (r : Recording) (s : List ℕ) (h : firstOf (dayChecks day (record { recording = r; samples = s })) ≡ 0) where
+  rules : Pass (dayChecks day (record { recording = r; samples = s }))
+  rules = pass (dayChecks day (record { recording = r; samples = s })) (search needs) h
+
+  short : length s ≤ longestWindow
+  short = short-enough (length s) (rules .0)
+
+  past : r .start .0 + length s ≤ dayTicks
+  past = ltb-false _ _ (rules .1 .0)
+
+  pub admissible : Admissible day r (eventOf s)
+  admissible =
+      let w = in-window s in
+      record {
+        class = leb-false _ _ (neither (leb (day .classes) (r .class)) (leb mostClasses (r .class)) (rules .1 .1 .0) .1);
+        peak = omega (arith, w, short);
+        end = omega (arith, w, past);
+        left = leb-false _ _ (rules .1 .1 .1 .1 .1 .1 .1 .1 .0);
+      }
+
+  -- its stretch lies in its window, with no sample above the limit
+  pub inside : Inside s (eventOf s .stretch .first) (eventOf s .stretch .end)
+  inside =
+      let high = neither (anyAbove highestSample s) (ltb highestSample (r .background .0)) (rules .1 .1 .1 .0) .0 in
+      let top = ltb-false highestSample (highest s) (rw any-above at high) in
+      let w = in-window s in
+      record { short = short; begins = w .first; ends = w .end; low = λ k. omega (arith, highest-above s k, top) }
+
+-- what an offer gives, by what is judged of it
+pub not-admitted : (day : Day) (o : Offering) {n : ℕ} → judgedOf day o ≡ refused n → record { day = day; answer = refused n } ≡ offered day o
+not-admitted day o h = rw (refused-alike (firstOf (dayChecks day o)) (eventOf (o .samples)) (admitted day o) h)
+
+pub is-admitted : (day : Day) (o : Offering) {v : Event} → judgedOf day o ≡ given v → admitted day o ≡ offered day o
+is-admitted day o h = rw (given-alike (firstOf (dayChecks day o)) (eventOf (o .samples)) (admitted day o) h)
+
+-- a sum does not see what an energy is modulo 2 ^ 128
+kept-modulo : (day : Day) (o : Offering) (S : ℕ) → let v = eventOf (o .samples) in
+    entered day (o .recording) v (value (limbsOf 4 S)) ≡ entered day (o .recording) v S
+kept-modulo day o S = rw (added-modulo 4 4 4 refl refl (energyIn (periodOf day (inDaytime (o .recording) (eventOf (o .samples))))) S refl)
+
+-- the answer to it
+pub answered : (day : Day) (o : Offering) (energy : List ℕ) (l : Reading) → let v = eventOf (o .samples) in
+    Exposed (slice (v .stretch .first) (v .stretch .end) (o .samples)) energy l
+    → record { day = entered day (o .recording) v (value energy); answer = given (record { exposure = l; lmax = highest (o .samples) }) } ≡ admitted day o
+answered day o energy l x = rw (x .sum, kept-modulo day o (energies (slice (eventOf (o .samples) .stretch .first) (eventOf (o .samples) .stretch .end) (o .samples))), x .exposure)

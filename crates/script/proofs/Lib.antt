@@ -1,2 +1,0 @@
--- Laws that the proofs of `script` cite.
-pub mod Judging

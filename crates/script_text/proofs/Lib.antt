@@ -1,0 +1,2 @@
+-- Laws that the proofs of `script_text` cite.
+pub mod Judging

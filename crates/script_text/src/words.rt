@@ -1,0 +1,194 @@
+// The words of a line: places of bytes, parts of runs, and numbers in decimal. Every function here takes any bytes and any places.
+ghost use mathlib.Core.Path.{_≡_};
+ghost use Prim.Native.Nat.{_+_, min};
+ghost use lib.ListN.{length, drop};
+ghost use Rattle.script_text.specs.Judging.{upTo};
+
+// What '-' stands for among the numbers: below scale, or no Lmax.
+pub const NONE: u32 = 4294967295;
+
+// The numbers of a call: how many there are, and how many stand before the '/'.
+pub struct Words {
+    pub count: usize,
+    pub slash: usize,
+}
+
+// How far a call is read: its numbers so far, and the number whose digits are read, if any.
+struct Scan {
+    count: usize,
+    slash: usize,
+    value: u32,
+    inside: bool,
+}
+
+// The part of a run from a place up to another, or nothing where there is no such part.
+pub fn part(bytes: &[u8], from: usize, to: usize) -> &[u8] {
+    if to <= bytes.len() {
+        if from <= to {
+            return &bytes[from..to];
+        }
+    }
+    &bytes[..0]
+}
+
+// The same of numbers in 16 bits.
+pub fn numbers_part(numbers: &[u16], from: usize, to: usize) -> &[u16] {
+    if to <= numbers.len() {
+        if from <= to {
+            return &numbers[from..to];
+        }
+    }
+    &numbers[..0]
+}
+
+// And of records.
+pub fn records_part(records: &[u64], from: usize, to: usize) -> &[u64] {
+    if to <= records.len() {
+        if from <= to {
+            return &records[from..to];
+        }
+    }
+    &records[..0]
+}
+
+// The first place of a byte from another place on, or where none is left.
+pub fn place_of(bytes: &[u8], from: usize, byte: u8) -> usize
+    ensures { λ r. ⌜ r ≡ from + length (upTo byte (drop from (now (bytes .entry)))) ⌝ }
+{
+    let mut i = from;
+    while i < bytes.len() {
+        if bytes[i] == byte {
+            return i;
+        }
+        i += 1;
+    }
+    i
+}
+
+// The place behind another, at the most the end.
+pub fn behind(place: usize, end: usize) -> usize
+    ensures { λ r. ⌜ r ≡ min (place + 1) end ⌝ }
+{
+    if place < end { place + 1 } else { end }
+}
+
+// The byte at a place, 0 behind the end.
+pub fn byte_at(bytes: &[u8], at: usize) -> u8 {
+    if at < bytes.len() { bytes[at] } else { 0 }
+}
+
+// The number at a place, 0 behind the end.
+pub fn number_at(numbers: &[u32], at: usize) -> u32 {
+    if at < numbers.len() { numbers[at] } else { 0 }
+}
+
+// A number with one digit more; one that would pass nine digits stays.
+fn with_digit(value: u32, byte: u8) -> u32 {
+    if 99999999 < value {
+        return value;
+    }
+    if byte < b'0' {
+        return value;
+    }
+    if b'9' < byte {
+        return value;
+    }
+    10 * value + (byte - b'0') as u32
+}
+
+// Puts a number behind those that are there, while there is room, and gives their count.
+fn put_number(numbers: &mut [u32], count: usize, value: u32) -> usize {
+    if count < numbers.len() {
+        numbers[count] = value;
+        return count + 1;
+    }
+    count
+}
+
+fn is_digit(byte: u8) -> bool {
+    if byte < b'0' {
+        return false;
+    }
+    byte <= b'9'
+}
+
+// The count after the end of a word.
+fn ended(scan: Scan, numbers: &mut [u32]) -> usize {
+    if scan.inside {
+        return put_number(numbers, scan.count, scan.value);
+    }
+    scan.count
+}
+
+// One byte further.
+fn scanned(scan: Scan, byte: u8, numbers: &mut [u32]) -> Scan {
+    if is_digit(byte) {
+        return Scan {
+            count: scan.count,
+            slash: scan.slash,
+            value: with_digit(scan.value, byte),
+            inside: true,
+        };
+    }
+    let count = ended(scan, numbers);
+    if byte == b'-' {
+        return Scan {
+            count: put_number(numbers, count, NONE),
+            slash: scan.slash,
+            value: 0,
+            inside: false,
+        };
+    }
+    if byte == b'/' {
+        return Scan {
+            count,
+            slash: count,
+            value: 0,
+            inside: false,
+        };
+    }
+    Scan {
+        count,
+        slash: scan.slash,
+        value: 0,
+        inside: false,
+    }
+}
+
+// Reads the numbers of a call, '-' as NONE.
+pub fn read_words(call: &[u8], numbers: &mut [u32]) -> Words {
+    let mut scan = Scan {
+        count: 0,
+        slash: 0,
+        value: 0,
+        inside: false,
+    };
+    let mut i = 0;
+    while i < call.len() {
+        let next = scanned(scan, byte_at(call, i), numbers);
+        scan = next;
+        i += 1;
+    }
+    Words {
+        count: ended(scan, numbers),
+        slash: scan.slash,
+    }
+}
+
+// A number in 16 bits and in 8, at the most the largest.
+pub fn in_16_bits(n: u32) -> u16 {
+    if n < 65536 { n as u16 } else { 65535 }
+}
+
+pub fn in_8_bits(n: u32) -> u8 {
+    if n < 256 { n as u8 } else { 255 }
+}
+
+// Copies numbers in 16 bits, 0 behind the last.
+pub fn copy_numbers(numbers: &[u32], out: &mut [u16]) {
+    let mut i = 0;
+    while i < out.len() {
+        out[i] = in_16_bits(number_at(numbers, i));
+        i += 1;
+    }
+}
