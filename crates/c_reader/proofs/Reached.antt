@@ -82,5 +82,6 @@ goes-on-fits stages.Events r window f bytes =
 goes-on-fits stages.Ended r window f bytes = f
 
 pub step-fits : (r : Reader) (window : List ℕ) (ended : Bool) → ReaderFits r → Bytes window → Fits (stepOf r window ended)
+unfolding stepOf
 step-fits r window ended f bytes =
     test (asks r window ended) (λ t. rw t f) (λ t. rw t (goes-on-fits (r .stage) r window f bytes))

@@ -39,6 +39,7 @@ last-on r window = go (r .stage) refl
     go stages.Ended h = rw h (λ _. refl)
 
 last-law : (r : Reader) (window : List ℕ) (ended : Bool) → Last (stepOf r window ended)
+unfolding stepOf
 last-law r window ended = test (asks r window ended) (λ t. rw t (λ few. absurd (omega arith))) (λ t. rw t (last-on r window))
 
 -- the bytes of a part, and those that are left
@@ -93,6 +94,7 @@ calls-law file printed end bytes calls =
 
 -- and a run of steps gives a run of calls: behind the last line a call answers 5
 done-answer : (r : Reader) → isDone r ≡ true → 2 < cameNumber (stepOf r [] false .came)
+unfolding stepOf
 done-answer r e = go (r .stage) refl
   where
     go : (g : Stage) → r .stage ≡ g → 2 < cameNumber (stepOf r [] false .came)
