@@ -17,7 +17,7 @@ use Rattle.quantity.proofs.Refusing.{pass}
 use Rattle.power.specs.Power.{e}
 use Rattle.limbs.specs.Value.{value, limbsOf}
 use Rattle.limbs.proofs.Digits.{value-limbsOf-whole}
-use Rattle.event.specs.Clock.{dayTicks}
+use Rattle.clock.specs.Clock.{dayTicks}
 use Rattle.event.specs.Window.{highest}
 use Rattle.ledger.specs.Book.{mostClasses, sumOf, padded, bookRules}
 use Rattle.ledger.specs.Day.{noneByClass, freshDay, periodOf}

@@ -21,7 +21,7 @@ use Rattle.level.specs.Level.{levelOf}
 use Rattle.level.specs.Accuracy.{weighted, Reaches, IsBelow}
 use Rattle.level.proofs.Answer.{Answers, answers, said}
 use Rattle.level.proofs.Bounds.{exact-low, reaches}
-use Rattle.event.specs.Clock.{dayTicks}
+use Rattle.clock.specs.Clock.{dayTicks}
 use Rattle.ledger.specs.Day.{freshDay}
 use Rattle.ledger.specs.declared.Day.{Day}
 use Rattle.closing.specs.Formula.{formulaOne}

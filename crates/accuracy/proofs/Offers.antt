@@ -16,8 +16,9 @@ use Rattle.limbs.proofs.Digits.{limbsOf-add}
 use Rattle.event.specs.Window.{highest}
 use Rattle.event.specs.Stretch.{stretchFirst, stretchEnd, stretchOf}
 use Rattle.decades.specs.Decades.{energies}
-use Rattle.event.specs.Event.{eventOf, energyOf}
-use Rattle.event.proofs.Accuracy.{exposure-accurate}
+use Rattle.event.specs.Event.{eventOf}
+use Rattle.exposure.specs.Exposure.{energyOf}
+use Rattle.exposure.proofs.Accuracy.{exposure-accurate}
 use Rattle.event.proofs.Whole.{in-window, peak-inside}
 use Rattle.ledger.specs.Book.{mostClasses}
 use Rattle.ledger.specs.Day.{periodOf, withPeriod, Answered}

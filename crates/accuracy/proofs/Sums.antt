@@ -11,9 +11,9 @@ use Rattle.power.specs.Power.{e, G}
 use Rattle.power.proofs.Scale.{e-at, m-zero}
 use Rattle.limbs.specs.Value.{base}
 use Rattle.level.specs.Accuracy.{Sample, weighted, weigh}
-use Rattle.event.specs.Clock.{dayTicks}
+use Rattle.clock.specs.Clock.{dayTicks}
 use Rattle.decades.specs.Decades.{energies}
-use Rattle.event.proofs.Accuracy.{weighted-energies}
+use Rattle.exposure.proofs.Accuracy.{weighted-energies}
 use Rattle.accuracy.specs.Tally.{Held, sameAs, heldSamples}
 use Rattle.accuracy.specs.Laws.{periodEnergy}
 

@@ -14,7 +14,7 @@ use Rattle.quantity.specs.Limits.{highestSample}
 use Rattle.quantity.specs.Rules.{firstOf}
 use Rattle.quantity.proofs.Refusing.{pass}
 use Rattle.power.specs.Power.{e}
-use Rattle.event.specs.Clock.{dayTicks, shortestWindow, longestWindow}
+use Rattle.clock.specs.Clock.{dayTicks, shortestWindow, longestWindow}
 use Rattle.event.specs.Window.{highest, peakOf, anyAbove}
 use Rattle.event.specs.Stretch.{stretchFirst, stretchEnd, stretchOf}
 use Rattle.decades.specs.Decades.{energies}

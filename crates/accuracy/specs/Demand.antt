@@ -6,7 +6,7 @@ use mathlib.Core.Option.{Option}
 use Prim.Native.Nat.{ℕ, _<_}
 use Rattle.quantity.specs.Rules.{firstOf, Outcome, refused, given}
 use Rattle.level.specs.Accuracy.{Accurate, weigh}
-use Rattle.event.specs.Clock.{samplesASecond}
+use Rattle.clock.specs.Clock.{samplesASecond}
 use Rattle.event.specs.Window.{highest}
 use Rattle.event.specs.Stretch.{stretchOf}
 use Rattle.admission.specs.Checks.{Offering}

@@ -10,7 +10,7 @@ use Rattle.quantity.specs.Answers.{Reading, level, below-scale}
 use Rattle.quantity.specs.Rules.{firstOf, Outcome, refused, given}
 use Rattle.quantity.specs.declared.DayAnswer.{DayAnswer}
 use Rattle.level.specs.Accuracy.{Sample, Accurate}
-use Rattle.event.specs.Clock.{dayTicks}
+use Rattle.clock.specs.Clock.{dayTicks}
 use Rattle.ledger.specs.Book.{bookRules}
 use Rattle.ledger.specs.Day.{freshDay}
 use Rattle.closing.specs.Formula.{formulaOne}

@@ -15,7 +15,8 @@ use Rattle.quantity.specs.declared.Level.{Level}
 use Rattle.quantity.proofs.Tests.{test}
 use Rattle.limbs.specs.Value.{value, base}
 use Rattle.limbs.proofs.Digits.{value-limbsOf}
-use Rattle.event.specs.Event.{eventOf, energyOf}
+use Rattle.event.specs.Event.{eventOf}
+use Rattle.exposure.specs.Exposure.{energyOf}
 use Rattle.event.specs.Window.{highest}
 use Rattle.ledger.specs.Book.{mostClasses, bookRules}
 use Rattle.ledger.specs.Day.{Answered, noneInClass, freshDay, noDay, periodOf, withPeriod, energyIn}

@@ -17,8 +17,8 @@ use Rattle.power.proofs.Scale.{e-mono, e-at, m-zero}
 use Rattle.limbs.specs.Value.{base}
 use Rattle.level.specs.Level.{levelOf}
 use Rattle.level.proofs.Answer.{Answers, answers}
-use Rattle.event.specs.Clock.{dayTicks, samplesASecond}
-use Rattle.event.specs.Event.{energyOf, exposureOf}
+use Rattle.clock.specs.Clock.{dayTicks, samplesASecond}
+use Rattle.exposure.specs.Exposure.{energyOf, exposureOf}
 use Rattle.event.specs.Stretch.{stretchEnd}
 use Rattle.event.proofs.Whole.{in-window}
 use Rattle.ledger.specs.Book.{sumOf}

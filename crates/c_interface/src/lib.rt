@@ -31,16 +31,16 @@ ghost use Rattle.c_interface.specs.Calls.{
   verdictLeaves,
   classLeaves,
 };
+use admission::Recording;
 use closing::CloseAnswer;
 use land::Finding;
 use land::LandClassAnswer;
 use land::Margin;
 use land::VerdictAnswer;
 use ledger::ClassHighest;
-use offering::OfferAnswer;
-use admission::Recording;
 use mean::MeanAnswer;
 use mean::Total;
+use offering::OfferAnswer;
 use quantity::Check;
 use quantity::HighestLevel;
 use quantity::Level;

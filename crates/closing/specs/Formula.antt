@@ -4,7 +4,7 @@ use Prim.Native.Nat.{ℕ, _+_, _*_}
 use lib.Dec.{eqb}
 use Rattle.quantity.specs.Answers.{Reading}
 use Rattle.level.specs.Level.{levelOf}
-use Rattle.event.specs.Clock.{samplesASecond, dayTicks}
+use Rattle.clock.specs.Clock.{samplesASecond, dayTicks}
 use Rattle.method.specs.Method.{allOf}
 use Rattle.method.specs.declared.Totals.{Totals}
 use Rattle.closing.specs.declared.Formula.{Formula}

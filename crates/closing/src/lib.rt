@@ -9,7 +9,6 @@ ghost use Rattle.method.specs.Method.{distance};
 ghost use Rattle.method.specs.Sizes.{FewIn};
 ghost use Rattle.closing.specs.Formula.{formulaOne, formulaTwo, formulaBy, levelBy};
 ghost use Rattle.closing.specs.Close.{largestDrift, closeOutcome, closed, closedReading, dayClosed};
-use event::clock;
 use ledger::ClassHighest;
 use ledger::Day;
 use method::MethodAnswer;

@@ -19,7 +19,8 @@ use Rattle.offering.specs.Offer.{withEvent, admitted}
 use Rattle.ledger.specs.declared.Day.{Day}
 use Rattle.ledger.specs.declared.Period.{Period}
 use Rattle.ledger.proofs.Books.{book-fits}
-use Rattle.event.specs.Event.{eventOf, energyOf}
+use Rattle.event.specs.Event.{eventOf}
+use Rattle.exposure.specs.Exposure.{energyOf}
 use Rattle.day_words.specs.Words.{Narrow, PeriodFits, DayFits, OpenedLaw, OfferedLaw}
 
 length-padded : (k : ℕ) (xs : List ℕ) → length (padded k xs) ≡ k

@@ -1,6 +1,5 @@
--- The laws of windows: one turn of each loop, the stretch as the only unbroken run and its exposure level.
+-- The laws of windows: one turn of each loop, and the stretch as the only unbroken run.
 pub mod Turns
 pub mod Runs
 pub mod Blocks
 pub mod Whole
-pub mod Accuracy

@@ -18,10 +18,10 @@ use Rattle.limbs.specs.Value.{value, limbsOf}
 use Rattle.limbs.proofs.Digits.{added-modulo}
 use Rattle.decades.specs.Decades.{energies}
 use Rattle.event.specs.Window.{highest, anyAbove}
-use Rattle.event.specs.Clock.{dayTicks, longestWindow}
+use Rattle.clock.specs.Clock.{dayTicks, longestWindow}
 use Rattle.event.specs.Event.{eventOf}
 use Rattle.event.specs.declared.Event.{Event}
-use Rattle.event.specs.Exposing.{Inside, Exposed}
+use Rattle.exposure.specs.Exposing.{Inside, Exposed}
 use Rattle.event.proofs.Runs.{highest-above}
 use Rattle.event.proofs.Whole.{any-above, in-window}
 use Rattle.ledger.specs.Book.{mostClasses}

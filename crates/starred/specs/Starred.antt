@@ -9,7 +9,7 @@ use lib.ListN.{length, replicate}
 use Rattle.quantity.specs.Answers.{Reading, level, below-scale}
 use Rattle.quantity.specs.Rules.{Outcome, given}
 use Rattle.power.specs.Power.{m}
-use Rattle.event.specs.Event.{exposureOf}
+use Rattle.exposure.specs.Exposure.{exposureOf}
 use Rattle.ledger.specs.Day.{opened}
 use Rattle.admission.specs.Checks.{Offering}
 use Rattle.offering.specs.Offer.{offered}
