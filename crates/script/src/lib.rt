@@ -11,8 +11,8 @@ ghost use lib.ListN.{length};
 
 mod calls;
 
+use judging::Progress;
 use libc::STDOUT_FILENO;
-use script_text::Progress;
 use script_text::words;
 
 // A line is shorter than this: 6016 numbers of five digits and their spaces are 36096 bytes.
@@ -50,13 +50,13 @@ fn run_call(
     colon: usize,
     shows_all: bool,
 ) -> Progress {
-    let equals = words::place_of(line, colon, b'=');
+    let equals = judging::place_of(line, colon, b'=');
     let call = words::part(line, std::num::wrapping_add_usize(colon, 2), equals);
     let should = words::part(line, words::behind(equals, line.len()), line.len());
     let text = calls::make(day, call);
     let bytes = text.bytes;
     let came = words::part(&bytes, 0, text.count);
-    let after = script_text::with_call(progress, came, should);
+    let after = judging::with_call(progress, came, should);
     if shows_all {
         show(words::part(line, 0, colon), came, should);
         return after;
@@ -69,7 +69,7 @@ fn run_call(
 
 // One line: a call, or a heading.
 fn run_line(day: &mut [u32; 320], progress: Progress, line: &[u8], shows_all: bool) -> Progress {
-    let colon = words::place_of(line, 0, b':');
+    let colon = judging::place_of(line, 0, b':');
     if colon < line.len() {
         return run_call(day, progress, line, colon, shows_all);
     }
@@ -86,7 +86,7 @@ fn line_at(held: &[u8], from: usize, end: usize) -> Line
 {
     Line {
         from,
-        to: words::place_of(words::part(held, 0, end), from, b'\n'),
+        to: judging::place_of(words::part(held, 0, end), from, b'\n'),
         end,
     }
 }

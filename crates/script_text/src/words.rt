@@ -1,8 +1,6 @@
 // The words of a line: places of bytes, parts of runs, and numbers in decimal. Every function here takes any bytes and any places.
 ghost use mathlib.Core.Path.{_≡_};
 ghost use Prim.Native.Nat.{_+_, min};
-ghost use lib.ListN.{length, drop};
-ghost use Rattle.script_text.specs.Judging.{upTo};
 
 // What '-' stands for among the numbers: below scale, or no Lmax.
 pub const NONE: u32 = 4294967295;
@@ -49,20 +47,6 @@ pub fn records_part(records: &[u64], from: usize, to: usize) -> &[u64] {
         }
     }
     &records[..0]
-}
-
-// The first place of a byte from another place on, or where none is left.
-pub fn place_of(bytes: &[u8], from: usize, byte: u8) -> usize
-    ensures { λ r. ⌜ r ≡ from + length (upTo byte (drop from (now (bytes .entry)))) ⌝ }
-{
-    let mut i = from;
-    while i < bytes.len() {
-        if bytes[i] == byte {
-            return i;
-        }
-        i += 1;
-    }
-    i
 }
 
 // The place behind another, at the most the end.

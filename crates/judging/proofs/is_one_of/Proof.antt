@@ -1,13 +1,13 @@
--- `script_text::is_one_of` meets its contract: the answers from a place on are what is left to be compared.
+-- `judging::is_one_of` meets its contract: the answers from a place on are what is left to be compared.
 use mathlib.Core.Path.{_≡_, refl}
 use Prim.Native.Nat.{_+_, _-_, _≤_}
 use native.Mathlib.Omega.{arith}
 use lib.ListN.{length, drop}
-use Rattle.script_text.specs.Judging.{isOneOf}
-use Rattle.script_text.proofs.Judging.{reached-within, is-this, is-none, is-later}
+use Rattle.judging.specs.Judging.{isOneOf}
+use Rattle.judging.proofs.Judging.{reached-within, is-this, is-none, is-later}
 use borrow.Author.Needs.{needs}
-use Rattle.script_text.proofs.is_one_of.Statement.{statement}
-use Rattle.script_text.proofs.is_one_of.Tie as tie
+use Rattle.judging.proofs.is_one_of.Statement.{statement}
+use Rattle.judging.proofs.is_one_of.Tie as tie
 
 abbrev Inv-loop : tie.InvT-loop
 Inv-loop came answers from₀ from = (from ≤ length answers) × (isOneOf came (drop from answers) ≡ isOneOf came answers)

@@ -1,14 +1,14 @@
--- `script_text::words::place_of` meets its contract: the search goes on from the place.
+-- `judging::place_of` meets its contract: the search goes on from the place.
 use mathlib.Core.Path.{_≡_, refl}
 use Prim.Native.Nat.{_+_, _-_}
 use native.Mathlib.Numerals.{add-one}
 use native.Mathlib.Omega.{arith}
 use lib.ListN.{length, drop}
-use Rattle.script_text.specs.Judging.{upTo}
-use Rattle.script_text.proofs.Judging.{found, passed, ended}
+use Rattle.judging.specs.Judging.{upTo}
+use Rattle.judging.proofs.Judging.{found, passed, ended}
 use borrow.Author.Needs.{needs}
-use Rattle.script_text.proofs.words.place_of.Statement.{statement}
-use Rattle.script_text.proofs.words.place_of.Tie as tie
+use Rattle.judging.proofs.place_of.Statement.{statement}
+use Rattle.judging.proofs.place_of.Tie as tie
 
 abbrev Inv-loop : tie.InvT-loop
 Inv-loop bytes from byte i₀ i = from + length (upTo byte (drop from bytes)) ≡ i + length (upTo byte (drop i bytes))

@@ -9,7 +9,7 @@ use lib.Dec.{eqb}
 use lib.ListN.{length, take, drop, getD, length-drop, drop-of-length-le}
 use lib.Seq.{drop-cons, drop-drop}
 use Rattle.quantity.proofs.Tests.{test, both}
-use Rattle.script_text.specs.Judging.{upTo, same, isLater, isOneOf}
+use Rattle.judging.specs.Judging.{upTo, same, isLater, isOneOf}
 
 module _ (byte : ℕ) where
   pub upTo-within : (xs : List ℕ) → length (upTo byte xs) ≤ length xs

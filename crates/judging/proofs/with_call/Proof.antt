@@ -1,7 +1,7 @@
--- `script_text::with_call` meets its contract: both numbers go up as the comparison says.
+-- `judging::with_call` meets its contract: both numbers go up as the comparison says.
 use borrow.Author.Needs.{needs}
-use Rattle.script_text.proofs.with_call.Statement.{statement}
-use Rattle.script_text.proofs.with_call.Tie as tie
+use Rattle.judging.proofs.with_call.Statement.{statement}
+use Rattle.judging.proofs.with_call.Tie as tie
 
 returns : tie.Need-returns
 returns c =

@@ -1,13 +1,13 @@
--- `script_text::is_right` meets its contract: the answers end before ','.
+-- `judging::is_right` meets its contract: the answers end before ','.
 use mathlib.Core.Path.{ap, _∙_}
 use mathlib.Core.List.{List}
 use Prim.Native.Nat.{ℕ}
 use native.Mathlib.Omega.{arith}
-use Rattle.script_text.specs.Judging.{isOneOf}
-use Rattle.script_text.proofs.Judging.{reached-within, reached-part}
+use Rattle.judging.specs.Judging.{isOneOf}
+use Rattle.judging.proofs.Judging.{reached-within, reached-part}
 use borrow.Author.Needs.{needs}
-use Rattle.script_text.proofs.is_right.Statement.{statement}
-use Rattle.script_text.proofs.is_right.Tie as tie
+use Rattle.judging.proofs.is_right.Statement.{statement}
+use Rattle.judging.proofs.is_right.Tie as tie
 
 part-is-one-of-end : tie.Need-part-is-one-of-end
 part-is-one-of-end c = reached-within 44 (c .before .before .before .args .should .now) 0 (c .place-of .result) (c .place-of .ensures) (omega arith)

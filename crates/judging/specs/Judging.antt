@@ -3,7 +3,7 @@ use mathlib.Core.Bool.{Bool, true, false, _&&_, _||_, cond}
 use mathlib.Core.List.{List, [], _∷_}
 use Prim.Native.Nat.{ℕ, _+_, _%_}
 use lib.Dec.{eqb}
-use Rattle.script_text.specs.declared.Progress.{Progress}
+use Rattle.judging.specs.declared.Progress.{Progress}
 
 -- the bytes before the first of a kind
 unfoldable pub upTo : ℕ → List ℕ → List ℕ

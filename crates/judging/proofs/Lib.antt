@@ -1,0 +1,2 @@
+-- Laws that the proofs of `judging` cite.
+pub mod Judging

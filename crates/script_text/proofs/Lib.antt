@@ -1,2 +1,0 @@
--- Laws that the proofs of `script_text` cite.
-pub mod Judging
