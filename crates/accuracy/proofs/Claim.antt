@@ -1,5 +1,5 @@
 -- Demand 3 for offers and closings, over every list of calls, and the laws beside it.
-use mathlib.Core.Path.{_≡_, refl, sym, subst}
+use mathlib.Core.Path.{refl, sym, subst}
 use mathlib.Core.List.{List, [], _∷_}
 use Prim.Native.Nat.{ℕ, _≤_}
 use Rattle.ledger.specs.declared.Day.{Day}

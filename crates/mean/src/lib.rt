@@ -12,7 +12,6 @@ ghost use Rattle.mean.specs.Records.{readings, readOutcome, recordAt, re
 ghost use Rattle.mean.specs.Total.{noDays, sumsWith, withDay, withRead, daysIfAllowed, meanOfTotal};
 use quantity::Check;
 use quantity::DayAnswer;
-use quantity::Level;
 use quantity::Reading;
 use quantity::Refusal;
 
