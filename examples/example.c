@@ -15,7 +15,8 @@ int main(void) {
     const uint32_t starts[] = {432000, 800000};
     uint32_t day[MOATBURDOCK_DAY_WORDS] = {0};
 
-    if (failed("opening", moatburdock_open_day(day, daytime, 2, night, 2)))
+    /* Ten samples a second, daytime from 06:00 to 22:00. */
+    if (failed("opening", moatburdock_open_day(day, 10, 216000, 791999, daytime, 2, night, 2)))
         return 1;
     for (uint8_t i = 0; i < 2; i++) {
         uint32_t exposure = 0, lmax = 0;
@@ -50,6 +51,7 @@ int main(void) {
         return 1;
     printf("the year: YLdn %u.%02u dB; class %u, finding %u, margin %d hundredths\n", mean / 100, mean % 100, land_class, finding, margin);
     uint32_t exposure = 0, lmax = 0;
+    printf("a day of 30 samples a second: refusal %u\n", moatburdock_open_day(day, 30, 216000, 791999, daytime, 2, night, 2));
     printf("a second fly-over at noon: refusal %u\n", moatburdock_offer(day, 432000, 0, 30, false, 6000, samples, 5, &exposure, &lmax));
     return 0;
 }

@@ -1,7 +1,7 @@
 // Opens a day, offers two fly-overs, closes it, and forms a year of such days. Built and run by examples/run_rust.
 #[link(name = "moatburdock", kind = "static")]
 extern "C" {
-    fn moatburdock_open_day(day: *mut u32, daytime: *const u16, classes: usize, night: *const u16, others: usize) -> u8;
+    fn moatburdock_open_day(day: *mut u32, rate: u32, first: u32, last: u32, daytime: *const u16, classes: usize, night: *const u16, others: usize) -> u8;
     fn moatburdock_offer(day: *mut u32, start: u32, class: u8, wind: u16, wet: bool, background: u32, samples: *const u16, count: usize,
         exposure: *mut u32, lmax: *mut u32) -> u8;
     fn moatburdock_close_day(day: *const u32, before: u32, after: u32, record: *mut u64, counts: *mut u32, highest_by_class: *mut u32) -> u8;
@@ -16,13 +16,17 @@ fn checked(answer: u8) -> Result<(), Refused> {
     if answer == 0 { Ok(()) } else { Err(Refused(answer)) }
 }
 
+/// The settings of a terminal: samples a second, and the first and the last daytime tick.
+struct Settings(u32, u32, u32);
+
 /// A day, in memory of its own.
 struct Day([u32; 320]);
 
 impl Day {
-    fn open(daytime: &[u16], night: &[u16]) -> Result<Day, Refused> {
+    fn open(settings: Settings, daytime: &[u16], night: &[u16]) -> Result<Day, Refused> {
         let mut day = [0; 320];
-        checked(unsafe { moatburdock_open_day(day.as_mut_ptr(), daytime.as_ptr(), daytime.len(), night.as_ptr(), night.len()) })?;
+        let Settings(rate, first, last) = settings;
+        checked(unsafe { moatburdock_open_day(day.as_mut_ptr(), rate, first, last, daytime.as_ptr(), daytime.len(), night.as_ptr(), night.len()) })?;
         Ok(Day(day))
     }
 
@@ -45,7 +49,8 @@ impl Day {
 
 fn main() -> Result<(), Refused> {
     let samples = [6000, 8000, 8000, 8000, 6000];
-    let mut day = Day::open(&[1], &[1])?;
+    // Ten samples a second, daytime from 06:00 to 22:00.
+    let mut day = Day::open(Settings(10, 216000, 791999), &[1], &[1])?;
     for start in [432000, 800000] {
         let (exposure, lmax) = day.offer(start, 0, &samples)?;
         println!("a fly-over at {}: LAE {:.2} dB, Lmax {:.2} dB", start, exposure as f64 / 100.0, lmax as f64 / 100.0);
@@ -58,6 +63,9 @@ fn main() -> Result<(), Refused> {
     let mut mean = 0;
     checked(unsafe { moatburdock_year_mean([record; 365].as_ptr(), 365, &mut mean) })?;
     println!("a year of such days: YLdn {:.2} dB", mean as f64 / 100.0);
+    if let Err(Refused(number)) = Day::open(Settings(20, 432000, 1728000), &[1], &[1]) {
+        println!("a last daytime tick behind the day: refusal {}", number);
+    }
     if let Err(Refused(number)) = day.offer(432000, 0, &samples) {
         println!("a second fly-over at noon: refusal {}", number);
     }

@@ -1,14 +1,16 @@
 /* Moatburdock: the ledger of an airport noise terminal, proved.
  *
  * Link with target/staticlib/libmoatburdock.a, which tools/c_library writes. The library keeps nothing between calls, allocates nothing and calls
- * nothing but memcpy and memset: all that it reads and writes is what it is lent here. The example in C takes 20 kB of stack, all told; a step of the
- * reader takes 34 kB.
+ * nothing but memcpy and memset: all that it reads and writes is what it is lent here. An offer takes 11 kB of stack, and a step of the reader, which has a
+ * room for the longest window of its own, 62 kB.
  *
- * Levels are hundredths of a decibel, times tenths of a second after local midnight, wind tenths of m/s.
+ * Levels are hundredths of a decibel, wind tenths of m/s. Times are ticks after local midnight, and a tick is one sample: a tenth, a twentieth or a
+ * fortieth of a second, by the rate with which a day is opened.
  *
  * Every function but the two of the reader answers 0, or the number of the refusal. A refused call leaves all that it was lent as it was. Of the arguments
  * only this is required: pointers to as many elements as are stated, all of them initialised, and none that is written through overlaps another
- * argument of the call. Any words make a day; words that are all 0 make a day of no class, on which every offer is refused by 3 and every closing by 12.
+ * argument of the call. Any words make a day; words that are all 0 make a day of no class, on which every offer is refused, by 1, 2 or 3, and every
+ * closing by 11 or 12.
  *
  * What each function computes is an equation that is proved for every argument: crates/c_interface/specs/Calls.antt, over the definitions of
  * crates/ledger, offering, closing, mean and land; of the reader crates/c_reader/specs/Calls.antt, over those of crates/steps. */
@@ -42,8 +44,8 @@ extern "C" {
 
 /* Why a call is refused. */
 enum moatburdock_refusal {
-    MOATBURDOCK_SAMPLE_COUNT = 1,       /* fewer than 3 samples or more than 6000 */
-    MOATBURDOCK_WINDOW_PAST_DAY_END,    /* start + number of samples above 864000 */
+    MOATBURDOCK_SAMPLE_COUNT = 1,       /* fewer than 3 samples, or more than 600 seconds of them */
+    MOATBURDOCK_WINDOW_PAST_DAY_END,    /* start + number of samples above the ticks of a day, 86400 times the rate */
     MOATBURDOCK_CLASS_NOT_IN_BOOK,      /* the class is not in the book */
     MOATBURDOCK_LEVEL_TOO_HIGH,         /* a sample, the background or a verdict's Lmax above 14000 */
     MOATBURDOCK_WEATHER,                /* wet, or wind above 100 */
@@ -57,8 +59,10 @@ enum moatburdock_refusal {
     MOATBURDOCK_DAY_COUNT,              /* a wrong number of days, or a place that is not there */
     MOATBURDOCK_RECORD_LEVEL_TOO_HIGH,  /* a day's or a year's level above 20000 */
     MOATBURDOCK_LAND_UNKNOWN,           /* no class 1 to 4, or no such land code */
-    MOATBURDOCK_FILE_FAULT,             /* a day file ends early, its calibration count is not 2, or an event has more than 6000 samples */
-    MOATBURDOCK_FILE_TOO_LONG           /* bytes behind the last event of a day file */
+    MOATBURDOCK_FILE_FAULT,             /* a day file ends early, the count of its settings is not 1 or that of its calibration not 2, or an event has more
+                                           than 600 seconds of samples */
+    MOATBURDOCK_FILE_TOO_LONG,          /* bytes behind the last event of a day file */
+    MOATBURDOCK_SETTINGS_INVALID        /* a rate that is not 10, 20 or 40, a first daytime tick above the last, or a last one that is not inside the day */
 };
 
 /* What a verdict names. */
@@ -70,11 +74,13 @@ enum moatburdock_finding {
     MOATBURDOCK_NO_LIMIT
 };
 
-/* Opens a day on a book: for each class the flights by day (06:00 to 22:00) and by night. Refusal 10, which leaves the day as it was. */
-uint8_t moatburdock_open_day(uint32_t day[MOATBURDOCK_DAY_WORDS], const uint16_t *daytime, size_t daytime_classes, const uint16_t *night,
-                             size_t night_classes);
+/* Opens a day: the settings of its terminal, which are its samples a second (10, 20 or 40) and the first and the last daytime tick, both in; and the book,
+ * for each class the flights by day and by night. At ten samples a second 06:00 to 22:00 is from tick 216000 to 791999. Refusals 18, then 10, which leave
+ * the day as it was. */
+uint8_t moatburdock_open_day(uint32_t day[MOATBURDOCK_DAY_WORDS], uint32_t rate, uint32_t first_daytime_tick, uint32_t last_daytime_tick,
+                             const uint16_t *daytime, size_t daytime_classes, const uint16_t *night, size_t night_classes);
 
-/* Offers a fly-over: a window of A-levels, ten a second, that begins at start. Accepted, it is added to the day, and the exposure level LAE (or
+/* Offers a fly-over: a window of A-levels, one a tick, that begins at start. Accepted, it is added to the day, and the exposure level LAE (or
  * MOATBURDOCK_NOTHING) and Lmax are given. Refusals 1 to 9, the first in their order that holds. */
 uint8_t moatburdock_offer(uint32_t day[MOATBURDOCK_DAY_WORDS], uint32_t start, uint8_t flight_class, uint16_t wind, bool wet, uint32_t background,
                           const uint16_t *samples, size_t sample_count, uint32_t *exposure, uint32_t *lmax);
@@ -107,8 +113,8 @@ uint8_t moatburdock_land_class(uint8_t letter, uint8_t digit, uint8_t *land_clas
  * reader; an opened reader has words that are all 0. */
 #define MOATBURDOCK_READER_WORDS 336
 
-/* The bytes of the longest event: a step on a window of as many never asks for more. */
-#define MOATBURDOCK_LONGEST_RECORD 12012
+/* The bytes of the longest event of the fastest rate: a step on a window of as many never asks for more. */
+#define MOATBURDOCK_LONGEST_RECORD 48012
 
 /* The numbers of a step, and the bytes of a line. */
 #define MOATBURDOCK_STEP_NUMBERS 6
@@ -122,7 +128,7 @@ enum moatburdock_came {
     MOATBURDOCK_CLOSED,                 /* 0 or refusal 11 or 12; where it is closed Ldn (or MOATBURDOCK_NOTHING), the method, the events by day, those by
                                            night, the highest Lmax (or MOATBURDOCK_NOTHING). That of each class comes of moatburdock_close_day on the
                                            reader's day, with the calibration levels of the file */
-    MOATBURDOCK_FAULT,                  /* refusal 10, 16 or 17; the reader's day is that of the events before the fault */
+    MOATBURDOCK_FAULT,                  /* refusal 10, 16, 17 or 18; the reader's day is that of the events before the fault */
     MOATBURDOCK_DONE                    /* the day was closed or a fault met at an earlier step */
 };
 

@@ -1,12 +1,14 @@
-"""The layout of a day file (document 01, 'Day file'), in one place: each section as bytes, and the sections of some bytes. All numbers are little-endian."""
+"""The layout of a day file (document 01, 'Day file', with the settings of document 02, W-202), in one place: each section as bytes, and the sections of some bytes. All numbers are little-endian."""
 import struct
 from collections import namedtuple
 
+SETTINGS = '<BBII'       # count byte 1, samples a second, first and last daytime tick
 ENTRY = '<HH'            # of the book: flights by day, flights by night
 CALIBRATION = '<BHH'     # count byte 2, level before, level after
 COUNT = '<H'             # of the events
 FIELDS = '<IBHBHH'       # of an event: start, class, wind, wet, background, number of samples
-MOST_SAMPLES = 6000
+LONGEST_WINDOW = 600     # seconds of samples
+BEFORE = (10, 216000, 791999)  # the settings of document 01: ten samples a second, daytime from 06:00 to 22:00
 
 Event = namedtuple('Event', 'start klass wind wet background samples')
 
@@ -17,6 +19,10 @@ class Fault(Exception):
     def __init__(self, number, text):
         super().__init__(text)
         self.number = number
+
+
+def settings(rate=BEFORE[0], first=BEFORE[1], last=BEFORE[2], count=1):
+    return struct.pack(SETTINGS, count, rate, first, last)
 
 
 def book(flights):
@@ -40,8 +46,9 @@ def events(records, announced=None):
 
 
 def sections(data):
-    """The sections of a file in their order, each as soon as it is read: ('book', flights), ('calibration', (before, after)) and ('event', Event)
-    for each event. Raises the Fault of a faulty file where it is met; a book with too many flights is no fault of the layout."""
+    """The sections of a file in their order, each as soon as it is read: ('settings', (rate, first, last)), ('book', flights), ('calibration',
+    (before, after)) and ('event', Event) for each event. Raises the Fault of a faulty file where it is met; settings that no terminal has and a book with too
+    many flights are no fault of the layout."""
     at = 0
 
     def take(form):
@@ -53,6 +60,10 @@ def sections(data):
         at += size
         return values
 
+    count, rate, first, last = take(SETTINGS)
+    if count != 1:
+        raise Fault(16, 'the settings have the count %d' % count)
+    yield 'settings', (rate, first, last)
     classes, = take('<B')
     if not 1 <= classes <= 16:
         raise Fault(10, 'the book has %d classes' % classes)
@@ -64,7 +75,7 @@ def sections(data):
     number, = take(COUNT)
     for i in range(number):
         *fields, n = take(FIELDS)
-        if n > MOST_SAMPLES:
+        if n > LONGEST_WINDOW * rate:
             raise Fault(16, 'event %d has %d samples' % (i + 1, n))
         yield 'event', Event(*fields, list(take('<%dH' % n)))
     if at < len(data):

@@ -4,7 +4,7 @@ noise.py.
     LABEL: CALL WORDS = ANSWER      answers that are right are separated by '|', and one that is plausible and wrong stands behind ', not'
     TEXT                            a line without ':' is a heading
 
-In the files of tools/cases 8000*3 stands for 8000 8000 8000."""
+In a call 8000*3 stands for 8000 8000 8000."""
 import re
 from collections import namedtuple
 
@@ -12,6 +12,9 @@ import noise
 
 # The label of a call whose stated answer is wrong, so that the program is seen to notice it, begins so.
 WRONG_ON_PURPOSE = 'wrong on purpose'
+
+# What '-' stands for where a number is wanted.
+NOTHING = 2 ** 32 - 1
 
 Call = namedtuple('Call', 'label name numbers slash stated answers')
 
@@ -27,7 +30,7 @@ def parsed(line):
     if not colon:
         return None
     call, _, stated = rest.partition('=')
-    name, *words = call.split()
+    name, *words = expanded(call).split()
     slash = words.index('/') if '/' in words else 0
     numbers = [None if w == '-' else int(w) for w in words if w != '/']
     return Call(label, name, numbers, slash, stated, [a.strip() for a in stated.split(',')[0].split('|')])
@@ -39,11 +42,16 @@ class Replay:
     def __init__(self):
         self.day = noise.Day([], [])
 
+    def opened(self, *settings_and_book):
+        number, self.day = noise.opened(*settings_and_book)
+        return ['R %d' % number if number else 'A']
+
     def book(self, call):
-        daytime, night = call.numbers[:call.slash], call.numbers[call.slash:]
-        opened = noise.opens(daytime, night)
-        self.day = noise.Day(daytime, night) if opened else noise.Day([], [])
-        return ['A' if opened else 'R 10']
+        return self.opened(call.numbers[:call.slash], call.numbers[call.slash:])
+
+    def terminal(self, call):
+        settings = [NOTHING if n is None else n for n in call.numbers[:3]]
+        return self.opened(call.numbers[3:call.slash], call.numbers[call.slash:], settings)
 
     def offer(self, call):
         return self.day.offer_answers(*call.numbers[:5], call.numbers[5:])

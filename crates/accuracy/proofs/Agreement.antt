@@ -19,8 +19,8 @@ use Rattle.limbs.specs.Value.{value, limbsOf}
 use Rattle.limbs.proofs.Digits.{value-limbsOf-whole}
 use Rattle.clock.specs.Clock.{dayTicks}
 use Rattle.event.specs.Window.{highest}
-use Rattle.ledger.specs.Book.{mostClasses, sumOf, padded, bookRules}
-use Rattle.ledger.specs.Day.{noneByClass, freshDay, periodOf}
+use Rattle.ledger.specs.Book.{mostClasses, sumOf, padded}
+use Rattle.ledger.specs.Day.{noneByClass, Opening, openRules, openedDay, periodOf}
 use Rattle.offering.specs.Offer.{raised, raisedInClass}
 use Rattle.ledger.specs.declared.Period.{Period}
 use Rattle.ledger.specs.declared.ClassHighest.{ClassHighest}
@@ -49,6 +49,7 @@ classesOfStretches (h ∷ hs) = raisedInClass (classesOfStretches hs) (h .class)
 abbrev pub dayOfTally : Tally → Day
 dayOfTally t =
     record {
+      settings = t .settings;
       classes = length (t .book true);
       daytime = periodOfTally t true;
       night = periodOfTally t false;
@@ -71,7 +72,7 @@ pub record Bounded (t : Tally) : Type 0 where
   pub counted : (p : Bool) → length (t .count p) ≡ length (t .book true)
   pub counts : (p : Bool) (class : ℕ) → getD (t .count p) class 0 ≤ getD (t .book p) class 0
   pub classes : OfFirst (length (t .book true)) (t .stretches)
-  pub day : t .end ≤ dayTicks
+  pub day : t .end ≤ dayTicks (t .settings .rate)
   pub apart : Apart (t .end) (t .stretches)
   pub energy : heldEnergy (t .stretches) ≤ e highestSample * t .end
 
@@ -106,28 +107,28 @@ module _ {t : Tally} (b : Bounded t) (p : Bool) where
   pub sum-whole : value (limbsOf 4 (periodEnergy p (t .stretches))) ≡ periodEnergy p (t .stretches)
   sum-whole =
       let S = periodEnergy p (t .stretches) in
-      value-limbsOf-whole 4 S (day-fits S (t .end) (le-trans (period-part p (t .stretches)) (b .energy)) (b .day))
+      value-limbsOf-whole 4 S (day-fits (t .settings .rate) S (t .end) (le-trans (period-part p (t .stretches)) (b .energy)) (b .day))
 
 -- the fresh day
 book-even : (daytime night : List ℕ) → length daytime ≡ length night → (p : Bool) → length (bookOf daytime night p) ≡ length daytime
 book-even daytime night h true = refl
 book-even daytime night h false = sym h
 
-pub fresh : (daytime night : List ℕ) → firstOf (bookRules daytime night) ≡ 0 → Agrees (started daytime night) (freshDay daytime night)
+pub fresh : (o : Opening) → firstOf (openRules o) ≡ 0 → Agrees (started o) (openedDay o)
 unfolding limbsOf periodEnergy
-fresh daytime night h =
-    let n = length daytime in
-    let rules = pass (bookRules daytime night) (search needs) h in
-    let valid = neither (eqb n 0 || ltb mostClasses n) (_) (rules .0) in
+fresh o h =
+    let n = length (o .daytime) in
+    let rules = pass (openRules o) (search needs) h in
+    let valid = neither (eqb n 0 || ltb mostClasses n) (_) (rules .1 .0) in
     let classes = neither (eqb n 0) (ltb mostClasses n) (valid .0) in
-    let even = eqb-true n (length night) (not-false (eqb n (length night)) (neither (not (eqb n (length night))) (_) (valid .1) .0)) in
+    let even = eqb-true n (length (o .night)) (not-false (eqb n (length (o .night))) (neither (not (eqb n (length (o .night)))) (_) (valid .1) .0)) in
     record {
       same = rw (padded-zeros mostClasses n);
       bounded =
           record {
             some = omega (arith, eqb-false n 0 (classes .0));
             most = ltb-false mostClasses n (classes .1);
-            booked = book-even daytime night even;
+            booked = book-even (o .daytime) (o .night) even;
             counted = λ p. length-replicate n 0;
             counts = λ p class. rw (zeros-at n class) zero-le;
             classes = tt;

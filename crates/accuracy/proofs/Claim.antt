@@ -1,12 +1,13 @@
 -- Demand 3 for offers and closings, over every list of calls, and the laws beside it.
-use mathlib.Core.Path.{refl, sym, subst}
+use mathlib.Core.Path.{_≡_, refl, sym, ap, _∙_, subst}
 use mathlib.Core.List.{List, [], _∷_}
-use Prim.Native.Nat.{ℕ, _≤_}
+use Prim.Native.Nat.{ℕ, zero, suc, _≤_}
+use Rattle.quantity.specs.Rules.{firstOf, outcome, follow}
 use Rattle.ledger.specs.declared.Day.{Day}
-use Rattle.accuracy.specs.Tally.{Call, offering, closing, Tally, started, tallyOf, tallied}
+use Rattle.accuracy.specs.Tally.{Call, offering, closing, Tally, started, tallyOf, tallied, tallyChecks, joined}
 use Rattle.accuracy.specs.Terminal.{dayAfterCalls, dayAfter}
 use Rattle.accuracy.specs.Demand.{Demanded, Claim}
-use Rattle.accuracy.specs.Laws.{Always, Apart, holders, WithinBook, Highest}
+use Rattle.accuracy.specs.Laws.{Always, SettingsKept, Apart, holders, WithinBook, Highest}
 use Rattle.accuracy.proofs.Held.{at-most-one}
 use Rattle.accuracy.proofs.Highest.{highest-of-tally}
 use Rattle.accuracy.proofs.Agreement.{dayOfTally, Bounded, Agrees, fresh, period-of-tally, book-at, count-at, sum-whole}
@@ -26,13 +27,29 @@ keep a [] = a
 keep a (c ∷ cs) = keep (keeps a c) cs
 
 pub agree : Always Agrees
-agree daytime night h calls = keep (fresh daytime night h) calls
+agree o h calls = keep (fresh o h) calls
+
+-- the settings are those of the opening
+settings-after : (t : Tally) (call : Call) → tallied t call .settings ≡ t .settings
+settings-after t (closing before after) = refl
+settings-after t (offering o) = by-number (firstOf (tallyChecks t o))
+  where
+    by-number : (n : ℕ) → follow (outcome n (joined t o)) (λ k. t) (λ next. next) .settings ≡ t .settings
+    by-number zero = refl
+    by-number (suc n) = refl
+
+pub settings-in-tally : (t : Tally) (calls : List Call) → tallyOf t calls .settings ≡ t .settings
+settings-in-tally t [] = refl
+settings-in-tally t (c ∷ cs) = settings-in-tally (tallied t c) cs ∙ settings-after t c
+
+pub settings-kept : SettingsKept
+settings-kept o h calls = ap (λ (day : Day). day .settings) (agree o h calls .same) ∙ settings-in-tally (started o) calls
 
 -- so what holds of a bounded tally and the day that it gives holds always
 always : (P : Tally → Day → Type 0) → ((t : Tally) → Bounded t → P t (dayOfTally t)) → Always P
-always P holds daytime night h calls =
-    let a = agree daytime night h calls in
-    subst (P (tallyOf (started daytime night) calls)) (sym (a .same)) (holds _ (a .bounded))
+always P holds o h calls =
+    let a = agree o h calls in
+    subst (P (tallyOf (started o) calls)) (sym (a .same)) (holds _ (a .bounded))
 
 call-demanded : (K : ℕ) (t : Tally) → Bounded t → (call : Call) → Demanded K t (dayOfTally t) call
 call-demanded K t b (offering o) = offer-demanded b o K
@@ -50,12 +67,12 @@ within-book =
 
 -- the stretches lie apart, and no instant is counted twice
 pub apart : Always (λ t day. Apart (t .end) (t .stretches))
-apart daytime night h calls = agree daytime night h calls .bounded .apart
+apart o h calls = agree o h calls .bounded .apart
 
 pub counted-once : (instant : ℕ) → Always (λ t day. holders instant (t .stretches) ≤ 1)
-counted-once instant daytime night h calls =
-    let t = tallyOf (started daytime night) calls in
-    at-most-one instant (t .end) (t .stretches) (apart daytime night h calls)
+counted-once instant o h calls =
+    let t = tallyOf (started o) calls in
+    at-most-one instant (t .end) (t .stretches) (apart o h calls)
 
 -- the day's highest levels are those of the stretches
 pub highest-held : Always Highest

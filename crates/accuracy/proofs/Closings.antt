@@ -42,7 +42,7 @@ abbrev pub answer : Tally → ℕ → Counts → ℕ → ℕ → Outcome Closing
 answer t n c Sd Sn =
     outcome n
     (record {
-      ldn = levelBy (formulaBy (methodBy c) (c .totals)) Sd Sn;
+      ldn = levelBy (formulaBy (t .settings .rate) (methodBy c) (c .totals)) Sd Sn;
       method = methodBy c;
       dayEvents = c .totals .daytime .events;
       nightEvents = c .totals .night .events;
@@ -66,11 +66,11 @@ module _ {t : Tally} (b : Bounded t) (before after : ℕ) where
       by-number : (n : ℕ) → firstOf (closeRules before after (tallyCounts t)) ≡ n → AnswerDemanded K (tallyAnswer t n)
       by-number zero h =
           let c = tallyCounts t in
-          let f = formulaBy (methodBy c) (c .totals) in
+          let f = formulaBy (t .settings .rate) (methodBy c) (c .totals) in
           let weight : Bool → ℕ = λ p. cond p (f .daytime) (f .night) in
           let rules = pass (closeRules before after c) (search needs) h in
           let highest = highest-of-tally b in
-          let positive = divisor-positive c (not-false _ (rules .1 .0)) in (
+          let positive = divisor-positive (t .settings .rate) c (not-false _ (rules .1 .0)) in (
             h,
             refl,
             refl,

@@ -10,3 +10,4 @@ pub mod Offers
 pub mod Closings
 pub mod Claim
 pub mod Means
+pub mod Before

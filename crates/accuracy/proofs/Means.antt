@@ -4,7 +4,7 @@ use mathlib.Core.Bool.{Bool, true, false, cond}
 use mathlib.Core.Logic.{_⊎_, inl, ⊎-elim}
 use mathlib.Core.List.{List, [], _∷_}
 use Prim.Native.Nat.{ℕ, suc, _+_, _*_, _^_, _≤_, _<_, zero-le}
-use native.Mathlib.Nat.{add-zero, add-assoc, mul-le-mul-right, mul-lt-mul-of-pos-left, lt-of-not-le, not-le-of-lt}
+use native.Mathlib.Nat.{add-zero, add-assoc, mul-assoc, mul-le-mul-left, mul-le-mul-right, le-of-lt, mul-lt-mul-of-pos-left, lt-of-not-le, not-le-of-lt}
 use native.Mathlib.Omega.{arith}
 use borrow.Author.Tests.{le-ltb, ltb-false}
 use lib.Dec.{ltb, lit<}
@@ -22,7 +22,10 @@ use Rattle.level.specs.Accuracy.{weighted, Reaches, IsBelow}
 use Rattle.level.proofs.Answer.{Answers, answers, said}
 use Rattle.level.proofs.Bounds.{exact-low, reaches}
 use Rattle.clock.specs.Clock.{dayTicks}
-use Rattle.ledger.specs.Day.{freshDay}
+use Rattle.clock.specs.declared.Rate.{Rate}
+use Rattle.clock.specs.declared.Rate.the-variants.{Ten, Twenty, Forty}
+use Rattle.clock.proofs.Rates.{rate-positive}
+use Rattle.ledger.specs.Day.{openedDay}
 use Rattle.ledger.specs.declared.Day.{Day}
 use Rattle.closing.specs.Formula.{formulaOne}
 use Rattle.closing.specs.Close.{Closing, closeRules, closed}
@@ -30,22 +33,27 @@ use Rattle.mean.specs.Mean.{isTooHigh, isCountWrong, anyTooHigh, powerOf, sumOf
 use Rattle.mean.specs.Records.{readings, DayReading}
 use Rattle.accuracy.specs.Tally.{Tally, Held, started, tallyOf, tallyCounts, heldSamples}
 use Rattle.accuracy.specs.Terminal.{dayAfterCalls}
-use Rattle.accuracy.specs.Means.{ClosedDay, Measured, Quiet, Each, heldIn, recordsOf, daySamples, samplesOf, MeanAccurate, MeanDemanded, MeanClaim, QuietLaw, Demand3}
+use Rattle.accuracy.specs.Means.{ClosedDay, Measured, Quiet, Each, rateIn, rateWeight, meanWeight, meanTicks, heldIn, recordsOf, daySamples, samplesOf, MeanAccurate, MeanDemanded, MeanClaim, QuietLaw, Demand3}
 use Rattle.accuracy.proofs.Sums.{weighted-held, weighted-append, heldEnergy}
 use Rattle.accuracy.proofs.Agreement.{Agrees}
 use Rattle.accuracy.proofs.Closings.{tallyAnswer, closed-same}
-use Rattle.accuracy.proofs.Claim.{agree, claim}
+use Rattle.accuracy.specs.Laws.{periodEnergy}
+use Rattle.accuracy.proofs.Claim.{agree, settings-in-tally, claim}
 
 -- one day
 
 abbrev tallyIn : ClosedDay → Tally
-tallyIn d = tallyOf (started (d .daytime) (d .night)) (d .calls)
+tallyIn d = tallyOf (started (d .opening)) (d .calls)
 
-agrees : (d : ClosedDay) → Agrees (tallyIn d) (dayAfterCalls (freshDay (d .daytime) (d .night)) (d .calls))
-agrees d = agree (d .daytime) (d .night) (d .opens) (d .calls)
+agrees : (d : ClosedDay) → Agrees (tallyIn d) (dayAfterCalls (openedDay (d .opening)) (d .calls))
+agrees d = agree (d .opening) (d .opens) (d .calls)
 
--- the level of a measured day is that of its samples
-day-level : (d : ClosedDay) (m : Measured d) → levelOf 0 dayTicks (weighted e (daySamples d)) ≡ level (m .ldn)
+-- its energy with the weights of method one
+abbrev dayEnergy : ClosedDay → ℕ
+dayEnergy d = formulaOne (rateIn d) .daytime * periodEnergy true (heldIn d) + formulaOne (rateIn d) .night * periodEnergy false (heldIn d)
+
+-- the level of a measured day is that of this energy
+day-level : (d : ClosedDay) (m : Measured d) → levelOf 0 (dayTicks (rateIn d)) (dayEnergy d) ≡ level (m .ldn)
 day-level d m =
     let a = agrees d in
     let t = tallyIn d in
@@ -53,11 +61,33 @@ day-level d m =
     let same : tallyAnswer t n ≡ given (d .closing) =
     sym (closed-same (a .bounded) (d .before) (d .after)) ∙ ap (λ (day : Day). closed day (d .before) (d .after)) (sym (a .same)) ∙ d .closes in
     let c = given-value n same .1 in
-    rw (weighted-held (λ p. cond p (formulaOne .daytime) (formulaOne .night)) (heldIn d))
-    (rw (ap (λ (x : Closing). x .method) c ∙ m .byMethodOne) at (ap (λ (x : Closing). x .ldn) c ∙ m .onScale))
+    rw (ap (λ (x : Closing). x .method) c ∙ m .byMethodOne, settings-in-tally (started (d .opening)) (d .calls)) at
+    (ap (λ (x : Closing). x .ldn) c ∙ m .onScale)
 
-day-bounds : (d : ClosedDay) (m : Measured d) → Answers 0 dayTicks (weighted e (daySamples d)) (level (m .ldn))
-day-bounds d m = said 0 dayTicks (weighted e (daySamples d)) (lit< tt) (day-level d m)
+ticks-positive : (rate : Rate) → 0 < dayTicks rate
+ticks-positive rate = omega (arith, rate-positive rate)
+
+module _ (d : ClosedDay) (m : Measured d) where
+  bounds : Answers 0 (dayTicks (rateIn d)) (dayEnergy d) (level (m .ldn))
+  bounds = said 0 (dayTicks (rateIn d)) (dayEnergy d) (ticks-positive (rateIn d)) (day-level d m)
+
+  day-reaches : dayTicks (rateIn d) * e (m .ldn) ≤ dayEnergy d
+  day-reaches = (simp add-zero at bounds) .0
+
+  day-below : dayEnergy d < dayTicks (rateIn d) * e (m .ldn + 1)
+  day-below = (simp add-zero at bounds) .1
+
+-- in a mean a day of any rate counts as one of the fastest
+as-fastest : (rate : Rate) → rateWeight rate * dayTicks rate ≡ meanTicks
+as-fastest Ten = refl
+as-fastest Twenty = refl
+as-fastest Forty = refl
+
+raised-ticks : (rate : Rate) (n : ℕ) → rateWeight rate * (dayTicks rate * n) ≡ meanTicks * n
+raised-ticks rate n = sym (mul-assoc (rateWeight rate) (dayTicks rate) n) ∙ ap (λ (k : ℕ). k * n) (as-fastest rate)
+
+raised-energy : (d : ClosedDay) → weighted e (daySamples d) ≡ rateWeight (rateIn d) * dayEnergy d
+raised-energy d = weighted-held (meanWeight (rateIn d)) (heldIn d) ∙ omega arith
 
 -- what a reading adds to a sum of g over levels
 abbrev at : (ℕ → ℕ) → Reading → ℕ
@@ -68,18 +98,25 @@ abbrev Stands : ClosedDay → Type 0
 Stands d = Measured d ⊎ Quiet d
 
 -- the samples of a day reach its level, and stay below the next
-reached-day : (d : ClosedDay) → Stands d → dayTicks * at e (d .closing .ldn) ≤ weighted e (daySamples d)
+reached-day : (d : ClosedDay) → Stands d → meanTicks * at e (d .closing .ldn) ≤ weighted e (daySamples d)
 reached-day d =
-    ⊎-elim (λ m. omega (arith, ap (at e) (m .onScale), simp add-zero at (day-bounds d m))) (λ q. omega (arith, ap (at e) (q .belowScale)))
+    ⊎-elim
+    (λ m.
+    let q = rateWeight (rateIn d) in
+    omega (arith, ap (at e) (m .onScale), raised-energy d, raised-ticks (rateIn d) (e (m .ldn)), mul-le-mul-left q (day-reaches d m)))
+    (λ q. omega (arith, ap (at e) (q .belowScale)))
 
 no-samples : (d : ClosedDay) → Quiet d → weighted e (daySamples d) ≡ 0
 unfolding weighted
-no-samples d q = ap (λ (hs : List Held). weighted e (heldSamples (λ p. cond p (formulaOne .daytime) (formulaOne .night)) hs)) (q .none)
+no-samples d q = ap (λ (hs : List Held). weighted e (heldSamples (meanWeight (rateIn d)) hs)) (q .none)
 
-held-day : (d : ClosedDay) → Stands d → weighted e (daySamples d) ≤ dayTicks * at (λ c. e (c + 1)) (d .closing .ldn)
+held-day : (d : ClosedDay) → Stands d → weighted e (daySamples d) ≤ meanTicks * at (λ c. e (c + 1)) (d .closing .ldn)
 held-day d =
     ⊎-elim
-    (λ m. omega (arith, ap (at (λ c. e (c + 1))) (m .onScale), simp add-zero at (day-bounds d m)))
+    (λ m.
+    let q = rateWeight (rateIn d) in
+    let next : at (λ c. e (c + 1)) (d .closing .ldn) ≡ e (m .ldn + 1) = ap (at (λ c. e (c + 1))) (m .onScale) in
+    omega (arith, raised-energy d, raised-ticks (rateIn d) (e (m .ldn + 1)), mul-le-mul-left q (le-of-lt (day-below d m))))
     (λ q. omega (arith, no-samples d q))
 
 step-day : (r : Reading) → at (λ c. e (c + 1)) r * (G * G) ≤ at e r * ((G + 1) * 1002305239)
@@ -108,12 +145,12 @@ unfolding readings
 records-count [] = refl
 records-count (d ∷ ds) = ap suc (records-count ds)
 
-reached : (days : List ClosedDay) → Each Stands days → dayTicks * levels e days ≤ weighted e (samplesOf days)
+reached : (days : List ClosedDay) → Each Stands days → meanTicks * levels e days ≤ weighted e (samplesOf days)
 unfolding levels weighted
 reached [] all = omega arith
 reached (d ∷ ds) all = rw (weighted-append e (daySamples d) (samplesOf ds)) (omega (arith, reached ds (all .1), reached-day d (all .0)))
 
-held : (days : List ClosedDay) → Each Stands days → weighted e (samplesOf days) ≤ dayTicks * levels (λ c. e (c + 1)) days
+held : (days : List ClosedDay) → Each Stands days → weighted e (samplesOf days) ≤ meanTicks * levels (λ c. e (c + 1)) days
 unfolding levels weighted
 held [] all = omega arith
 held (d ∷ ds) all = rw (weighted-append e (daySamples d) (samplesOf ds)) (omega (arith, held ds (all .1), held-day d (all .0)))
@@ -130,10 +167,10 @@ three : (y z : ℕ) → 1002305238 * y < (G + 1) * 1002305239 * z → (G + 1) * 
 three y z h = omega arith
 
 module _ (K r : ℕ) (days : List ClosedDay) (stand : Each Stands days) (some : 0 < length days) (all : Answers 0 (length days) (levels e days) (level r)) where
-  mean-reaches : Reaches 3 K (dayTicks * length days) (samplesOf days) r
+  mean-reaches : Reaches 3 K (meanTicks * length days) (samplesOf days) r
   mean-reaches =
       let low : length days * e r ≤ levels e days = (simp add-zero at all) .0 in
-      omega (arith, reaches K (samplesOf days) (dayTicks * length days) r (omega (arith, reached days stand)))
+      omega (arith, reaches K (samplesOf days) (meanTicks * length days) r (omega (arith, reached days stand)))
 
   top : 1002305238 * (levels e days * 10 ^ K) < length days * (X K (r + 2) + 1) * (G * G)
   top =
@@ -144,11 +181,11 @@ module _ (K r : ℕ) (days : List ClosedDay) (stand : Each Stands days) (some : 
   next : ℕ
   next = levels (λ c. e (c + 1)) days
 
-  exact : G * G * weighted (X K) (samplesOf days) ≤ dayTicks * (G + 1) * (next * 10 ^ K)
+  exact : G * G * weighted (X K) (samplesOf days) ≤ meanTicks * (G + 1) * (next * 10 ^ K)
   unfolding next
   exact = omega (arith, exact-low K (samplesOf days), mul-le-mul-right (10 ^ K) (held days stand))
 
-  mean-below : IsBelow 3 K (dayTicks * length days) (samplesOf days) (r + 2)
+  mean-below : IsBelow 3 K (meanTicks * length days) (samplesOf days) (r + 2)
   unfolding next
   mean-below =
       let z = length days * (X K (r + 2) + 1) in
@@ -180,13 +217,13 @@ mean-accurate K days all some = go (levelOf 0 (length days) (levels e days)) (an
 low-level : (d : ClosedDay) (m : Measured d) → m .ldn ≤ highestDayLevel
 low-level d m =
     let b = agrees d .bounded in
+    let ticks = dayTicks (rateIn d) in
     let top : e highestSample ≡ G * 10 ^ 14 = rw m-zero at (e-at 14 0 zero-le) in
     let far : e 20000 ≡ G * 10 ^ 20 = rw m-zero at (e-at 20 0 zero-le) in
-    let sum = weighted-held (λ p. cond p (formulaOne .daytime) (formulaOne .night)) (heldIn d) in
-    let reach : dayTicks * e (m .ldn) ≤ weighted e (daySamples d) = (simp add-zero at (day-bounds d m)) .0 in
     let energy : heldEnergy (heldIn d) ≤ G * 10 ^ 14 * tallyIn d .end = rw top at (b .energy) in
-    let room = b .day in
-    let below : m .ldn < highestDayLevel + 1 = lt-of-not-le (λ l. omega (arith, e-mono {c = 20000} {d = m .ldn} (omega arith))) in
+    let room : tallyIn d .end ≤ ticks = rw (settings-in-tally (started (d .opening)) (d .calls)) at (b .day) in
+    let below : m .ldn < highestDayLevel + 1 =
+    lt-of-not-le (λ l. omega (arith, day-reaches d m, ticks-positive (rateIn d), rw far at (mul-le-mul-left ticks (e-mono {c = 20000} {d = m .ldn} (omega arith))))) in
     omega arith
 
 fits-record : (d : ClosedDay) → Stands d → isTooHigh (d .closing .ldn) ≡ false

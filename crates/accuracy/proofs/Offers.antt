@@ -13,6 +13,7 @@ use Rattle.quantity.specs.Rules.{Rule, firstOf, refused, outcome, follow}
 use Rattle.quantity.specs.declared.HighestLevel.{HighestLevel}
 use Rattle.power.specs.Power.{e}
 use Rattle.limbs.proofs.Digits.{limbsOf-add}
+use Rattle.clock.specs.declared.Settings.{Settings}
 use Rattle.event.specs.Window.{highest}
 use Rattle.event.specs.Stretch.{stretchFirst, stretchEnd, stretchOf}
 use Rattle.decades.specs.Decades.{energies}
@@ -44,16 +45,16 @@ module _ {t : Tally} (b : Bounded t) where
   pub checks-same : (o : Offering) → dayChecks (dayOfTally t) o ≡ tallyChecks t o
   checks-same o =
       let class = o .recording .class in
-      rw (first-limit (length (t .book true)) mostClasses class (b .most), used-same (periodIn o) class)
+      rw (first-limit (length (t .book true)) mostClasses class (b .most), used-same (periodIn (t .settings) o) class)
 
 -- days that differ in their periods and their highest levels
-day-same : {classes end : ℕ} {d d′ n n′ : Period} {h h′ : HighestLevel} {l l′ : List ClassHighest}
+day-same : {settings : Settings} {classes end : ℕ} {d d′ n n′ : Period} {h h′ : HighestLevel} {l l′ : List ClassHighest}
     → d ≡ d′ → n ≡ n′ → h ≡ h′ → l ≡ l′
     → _≡_ {A = Day}
-    (record { classes = classes; daytime = d; night = n; end = record { 0 = end }; highest = h; «highest_by_class» = l })
-    (record { classes = classes; daytime = d′; night = n′; end = record { 0 = end }; highest = h′; «highest_by_class» = l′ })
-day-same {classes} {end} p q r s = λ i.
-    record { classes = classes; daytime = p i; night = q i; end = record { 0 = end }; highest = r i; «highest_by_class» = s i }
+    (record { settings = settings; classes = classes; daytime = d; night = n; end = record { 0 = end }; highest = h; «highest_by_class» = l })
+    (record { settings = settings; classes = classes; daytime = d′; night = n′; end = record { 0 = end }; highest = h′; «highest_by_class» = l′ })
+day-same {settings} {classes} {end} p q r s = λ i.
+    record { settings = settings; classes = classes; daytime = p i; night = q i; end = record { 0 = end }; highest = r i; «highest_by_class» = s i }
 
 -- a class has flights left in a period
 abbrev HasRoom : Tally → ℕ → Bool → Type 0
@@ -62,7 +63,7 @@ HasRoom t class p = getD (t .count p) class 0 < getD (t .book p) class 0
 -- the tally with one stretch more
 abbrev withStretch : Tally → Held → Tally
 withStretch t h =
-    record { book = t .book; end = h .to; count = countRaised (t .count) (h .daytime) (h .class); stretches = h ∷ t .stretches }
+    record { settings = t .settings; book = t .book; end = h .to; count = countRaised (t .count) (h .daytime) (h .class); stretches = h ∷ t .stretches }
 
 module _ {t : Tally} (b : Bounded t) (class : ℕ) (booked : class < length (t .book true)) where
   in-counts : (p : Bool) → class < length (t .count p)
@@ -87,6 +88,7 @@ module _ {t : Tally} (b : Bounded t) (class : ℕ) (booked : class < length (t .
       → let next = withPeriod (dayOfTally t) p (withEvent (periodOf (dayOfTally t) p) class (energies levels)) in
       _≡_ {A = Day}
       (record {
+        settings = t .settings;
         classes = next .classes;
         daytime = next .daytime;
         night = next .night;
@@ -118,11 +120,11 @@ apart-later (h ∷ hs) l p = (le-trans (p .0) l, p .1, p .2)
 
 -- an offer that no rule of the tally refuses
 module _ {t : Tally} (b : Bounded t) (o : Offering) (free : firstOf (tallyChecks t o) ≡ 0) where
-  admission : Admitted o
+  admission : Admitted (t .settings .rate) o
       (leb (length (t .book true)) (o .recording .class))
       (t .end)
-      (eqb (getD (t .count (periodIn o)) (o .recording .class) 0) (getD (t .book (periodIn o)) (o .recording .class) 0))
-  admission = admits o _ _ _ free
+      (eqb (getD (t .count (periodIn (t .settings) o)) (o .recording .class) 0) (getD (t .book (periodIn (t .settings) o)) (o .recording .class) 0))
+  admission = admits _ o _ _ _ free
 
   in-book : o .recording .class < length (t .book true)
   in-book = leb-false _ _ (admission .booked)
@@ -131,14 +133,14 @@ module _ {t : Tally} (b : Bounded t) (o : Offering) (free : firstOf (tallyChecks
   joined-same =
       let c = o .recording in
       let s = o .samples in
-      event-same b (c .class) in-book (periodIn o) (c .start .0 + stretchFirst s) (c .start .0 + stretchEnd s) (stretchOf s)
+      event-same b (c .class) in-book (periodIn (t .settings) o) (c .start .0 + stretchFirst s) (c .start .0 + stretchEnd s) (stretchOf s)
       (sym (highest-stretch s (admission .some)))
 
   joined-bounded : Bounded (joined t o)
   joined-bounded =
       let class = o .recording .class in
       let s = o .samples in
-      let p = periodIn o in
+      let p = periodIn (t .settings) o in
       let a = admission in
       let count = getD (t .count p) class 0 in
       let flights = getD (t .book p) class 0 in
@@ -178,5 +180,5 @@ module _ {t : Tally} (b : Bounded t) (o : Offering) where
   offer-demanded K = rw offered-same (by-number (firstOf (tallyChecks t o)) refl)
     where
       by-number : (n : ℕ) → firstOf (tallyChecks t o) ≡ n → OfferDemanded K t o (answerBy t o n .answer)
-      by-number zero h = (h, refl, exposure-accurate K (o .samples))
+      by-number zero h = (h, refl, exposure-accurate K (t .settings .rate) (o .samples))
       by-number (suc n) h = (h, omega arith)

@@ -12,6 +12,8 @@ use Rattle.power.proofs.Scale.{e-at, m-zero}
 use Rattle.limbs.specs.Value.{base}
 use Rattle.level.specs.Accuracy.{Sample, weighted, weigh}
 use Rattle.clock.specs.Clock.{dayTicks}
+use Rattle.clock.specs.declared.Rate.{Rate}
+use Rattle.clock.proofs.Rates.{rate-most}
 use Rattle.decades.specs.Decades.{energies}
 use Rattle.exposure.proofs.Accuracy.{weighted-energies}
 use Rattle.accuracy.specs.Tally.{Held, sameAs, heldSamples}
@@ -49,7 +51,8 @@ period-part true hs = omega arith
 period-part false hs = omega arith
 
 -- a day of samples at the highest level has less energy than four limbs hold
-pub day-fits : (S end : ℕ) → S ≤ e highestSample * end → end ≤ dayTicks → S < base ^ 4
-day-fits S end h l =
+pub day-fits : (rate : Rate) (S end : ℕ) → S ≤ e highestSample * end → end ≤ dayTicks rate → S < base ^ 4
+day-fits rate S end h l =
     let top : e highestSample ≡ G * 10 ^ 14 = rw m-zero at (e-at 14 0 zero-le) in
-    lt-of-le-of-lt (le-trans h (mul-le-mul-left (e highestSample) l)) (rw top (lit< tt))
+    let longest : end ≤ 3456000 = omega (arith, rate-most rate) in
+    lt-of-le-of-lt (le-trans h (mul-le-mul-left (e highestSample) longest)) (rw top (lit< tt))

@@ -15,6 +15,7 @@ use Rattle.quantity.specs.Rules.{firstOf}
 use Rattle.quantity.proofs.Refusing.{pass}
 use Rattle.power.specs.Power.{e}
 use Rattle.clock.specs.Clock.{dayTicks, shortestWindow, longestWindow}
+use Rattle.clock.specs.declared.Rate.{Rate}
 use Rattle.event.specs.Window.{highest, peakOf, anyAbove}
 use Rattle.event.specs.Stretch.{stretchFirst, stretchEnd, stretchOf}
 use Rattle.decades.specs.Decades.{energies}
@@ -45,24 +46,25 @@ stretch-energy c s h =
     omega arith
 
 -- what no refusal says of an offer: 1 and 2, 3, 4, 8 and 9
-pub record Admitted (o : Offering) (unbooked : Bool) (end : ℕ) (used : Bool) : Type 0 where
+pub record Admitted (rate : Rate) (o : Offering) (unbooked : Bool) (end : ℕ) (used : Bool) : Type 0 where
   pub some : 0 < length (o .samples)
-  pub past : o .recording .start .0 + length (o .samples) ≤ dayTicks
+  pub past : o .recording .start .0 + length (o .samples) ≤ dayTicks rate
   pub booked : unbooked ≡ false
   pub level : highest (o .samples) ≤ highestSample
   pub after : end ≤ o .recording .start .0 + stretchFirst (o .samples)
   pub unused : used ≡ false
 
-pub admits : (o : Offering) (unbooked : Bool) (end : ℕ) (used : Bool) → firstOf (offerChecks o unbooked end used) ≡ 0 → Admitted o unbooked end used
-admits o unbooked end used h =
+pub admits : (rate : Rate) (o : Offering) (unbooked : Bool) (end : ℕ) (used : Bool) → firstOf (offerChecks rate o unbooked end used) ≡ 0
+    → Admitted rate o unbooked end used
+admits rate o unbooked end used h =
     let c = o .recording in
     let n = length (o .samples) in
-    let p = pass (offerChecks o unbooked end used) (search needs) h in
-    let count = neither (ltb n shortestWindow) (ltb longestWindow n) (p .0) in
+    let p = pass (offerChecks rate o unbooked end used) (search needs) h in
+    let count = neither (ltb n shortestWindow) (ltb (longestWindow rate) n) (p .0) in
     let high = neither (anyAbove highestSample (o .samples)) (ltb highestSample (c .background .0)) (p .1 .1 .1 .0) in
     record {
       some = omega (arith, ltb-false n shortestWindow (count .0));
-      past = ltb-false dayTicks (c .start .0 + n) (p .1 .0);
+      past = ltb-false (dayTicks rate) (c .start .0 + n) (p .1 .0);
       booked = p .1 .1 .0;
       level = ltb-false highestSample (highest (o .samples)) (sym (any-above highestSample (o .samples)) ∙ high .0);
       after = ltb-false (c .start .0 + stretchFirst (o .samples)) end (p .1 .1 .1 .1 .1 .1 .1 .0);

@@ -18,13 +18,13 @@ use Rattle.closing.specs.Close.{Closing, closeRules, dayClosed}
 use Rattle.accuracy.specs.Tally.{Call, offering, closing, Tally, tallyChecks, tallyCounts, heldSamples}
 use Rattle.accuracy.specs.Laws.{Always, highestHeld, ByClass, largest}
 
--- An accepted offer: the tally takes it in, and its own stretch is summed with w = 1, M = 10. A refused one: the tally leaves it out, by the
+-- An accepted offer: the tally takes it in, and its own stretch is summed with w = 1, M the samples a second. A refused one: the tally leaves it out, by the
 -- same number.
 abbrev pub OfferDemanded : ℕ → Tally → Offering → Outcome Accepted → Type 0
 OfferDemanded K t o (given a) =
     (firstOf (tallyChecks t o) ≡ 0)
     × (a .lmax ≡ highest (o .samples))
-    × Accurate 1 1 0 K samplesASecond (weigh 1 (stretchOf (o .samples))) (a .exposure)
+    × Accurate 1 1 0 K (samplesASecond (t .settings .rate)) (weigh 1 (stretchOf (o .samples))) (a .exposure)
 OfferDemanded K t o (refused n) = (firstOf (tallyChecks t o) ≡ n) × (0 < n)
 
 -- A closing: the method and the primed numbers are those of the tally's counts, the highest level is that of the stretches that the tally then
@@ -33,7 +33,7 @@ OfferDemanded K t o (refused n) = (firstOf (tallyChecks t o) ≡ n) × (0 < n)
 abbrev pub CloseDemanded : ℕ → Tally → (before after : ℕ) → Outcome Closing → (highestByClass : List (Option ℕ)) → Type 0
 CloseDemanded K t before after (given x) highestByClass =
     let c = tallyCounts t in
-    let f = formulaBy (methodBy c) (c .totals) in
+    let f = formulaBy (t .settings .rate) (methodBy c) (c .totals) in
     (firstOf (closeRules before after c) ≡ 0)
     × (x .method ≡ methodBy c)
     × (x .dayEvents ≡ c .totals .daytime .events)
@@ -51,6 +51,6 @@ Demanded K t day (closing before after) =
     let c = dayClosed day before after in
     CloseDemanded K t before after (c .answer) (c .highestByClass)
 
--- for every K, every book that opens, every list of calls, refused ones included, and one call more
+-- for every K, all settings and every book that open, every list of calls, refused ones included, and one call more
 unfoldable pub Claim : Type 0
 Claim = (K : ℕ) → Always (λ t day. (call : Call) → Demanded K t day call)

@@ -10,19 +10,22 @@ use Rattle.quantity.specs.Answers.{highestReading}
 use Rattle.quantity.specs.Rules.{firstOf}
 use Rattle.event.specs.Window.{highest}
 use Rattle.decades.specs.Decades.{energies}
-use Rattle.ledger.specs.Book.{bookRules}
-use Rattle.ledger.specs.Day.{freshDay, periodOf, energyIn, levelsByClass}
+use Rattle.ledger.specs.Day.{Opening, openRules, openedSettings, openedDay, periodOf, energyIn, levelsByClass}
 use Rattle.ledger.specs.declared.Day.{Day}
 use Rattle.accuracy.specs.Tally.{Call, Held, Tally, started, tallyOf, sameAs}
 use Rattle.accuracy.specs.Terminal.{dayAfterCalls}
 
--- for every book that opens and every list of calls, refused ones included
+-- for all settings and every book that open, and every list of calls, refused ones included
 abbrev pub Always : (Tally → Day → Type 0) → Type 0
 Always P =
-    (daytime night : List ℕ) → firstOf (bookRules daytime night) ≡ 0 → (calls : List Call)
-    → P (tallyOf (started daytime night) calls) (dayAfterCalls (freshDay daytime night) calls)
+    (o : Opening) → firstOf (openRules o) ≡ 0 → (calls : List Call)
+    → P (tallyOf (started o) calls) (dayAfterCalls (openedDay o) calls)
 
--- the stretches, the latest first, end by a time, and each begins where the ones before it have ended: no instant is counted twice
+-- W-202: no call changes the settings that a day was opened with
+abbrev pub SettingsKept : Type 0
+SettingsKept = (o : Opening) → firstOf (openRules o) ≡ 0 → (calls : List Call) → dayAfterCalls (openedDay o) calls .settings ≡ openedSettings o
+
+-- the stretches, the latest first, end by a tick, and each begins where the ones before it have ended: no instant is counted twice
 abbrev pub Apart : ℕ → List Held → Type 0
 Apart end [] = Unit
 Apart end (h ∷ hs) = (h .to ≤ end) × (h .from < h .to) × Apart (h .from) hs

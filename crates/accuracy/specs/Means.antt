@@ -1,18 +1,18 @@
 -- Demand 3 for means (document 01, 'Powers', 'Means'): the sum runs, for each of the days, over the stretches held at the closing whose answer
 -- that day's record holds.
 use mathlib.Core.Path.{_≡_}
-use mathlib.Core.Bool.{true, false, cond}
+use mathlib.Core.Bool.{Bool, true, false, cond}
 use mathlib.Core.Logic.{_⊎_}
 use mathlib.Core.List.{List, [], _∷_, _++_}
-use Prim.Native.Nat.{ℕ, _*_}
+use Prim.Native.Nat.{ℕ, _*_, _/_}
 use lib.ListN.{length}
 use Rattle.quantity.specs.Answers.{Reading, level, below-scale}
 use Rattle.quantity.specs.Rules.{firstOf, Outcome, refused, given}
 use Rattle.quantity.specs.declared.DayAnswer.{DayAnswer}
 use Rattle.level.specs.Accuracy.{Sample, Accurate}
-use Rattle.clock.specs.Clock.{dayTicks}
-use Rattle.ledger.specs.Book.{bookRules}
-use Rattle.ledger.specs.Day.{freshDay}
+use Rattle.clock.specs.Clock.{samplesASecond}
+use Rattle.clock.specs.declared.Rate.{Rate}
+use Rattle.ledger.specs.Day.{Opening, openRules, openedSettings, openedDay}
 use Rattle.closing.specs.Formula.{formulaOne}
 use Rattle.closing.specs.Close.{Closing, closed}
 use Rattle.mean.specs.Mean.{isCountWrong, weekMeanOf, yearMeanOf}
@@ -21,26 +21,37 @@ use Rattle.accuracy.specs.Tally.{Call, Held, started, tallyOf, heldSampl
 use Rattle.accuracy.specs.Terminal.{dayAfterCalls}
 use Rattle.accuracy.specs.Demand.{Claim}
 
--- a day of a mean: a book that opens, a list of calls of its own and a closing after them; and the day's record, which holds that answer
+-- a day of a mean: settings and a book that open, a list of calls of its own and a closing after them; and the day's record, which holds that answer
 pub record ClosedDay : Type 0 where
-  pub daytime : List ℕ
-  pub night : List ℕ
-  pub opens : firstOf (bookRules daytime night) ≡ 0
+  pub opening : Opening
+  pub opens : firstOf (openRules opening) ≡ 0
   pub calls : List Call
   pub before : ℕ
   pub after : ℕ
   pub closing : Closing
-  pub closes : closed (dayAfterCalls (freshDay daytime night) calls) before after ≡ given closing
+  pub closes : closed (dayAfterCalls (openedDay opening) calls) before after ≡ given closing
   pub kept : DayAnswer
   pub holds : dayReading kept ≡ record { level = closing .ldn; method = closing .method }
 
 -- the stretches held at its closing
 abbrev pub heldIn : ClosedDay → List Held
-heldIn d = tallyOf (started (d .daytime) (d .night)) (d .calls) .stretches
+heldIn d = tallyOf (started (d .opening)) (d .calls) .stretches
 
--- its samples, with the weights of method one
+-- the rate of its terminal
+abbrev pub rateIn : ClosedDay → Rate
+rateIn d = openedSettings (d .opening) .rate
+
+-- W-202: so that days of different rates stand side by side, each weight is multiplied by 40 over the rate of its day
+abbrev pub rateWeight : Rate → ℕ
+rateWeight rate = 40 / samplesASecond rate
+
+-- the weights of method one, by day and by night
+abbrev pub meanWeight : Rate → Bool → ℕ
+meanWeight rate p = rateWeight rate * cond p (formulaOne rate .daytime) (formulaOne rate .night)
+
+-- its samples
 abbrev pub daySamples : ClosedDay → List Sample
-daySamples d = heldSamples (λ p. cond p (formulaOne .daytime) (formulaOne .night)) (heldIn d)
+daySamples d = heldSamples (meanWeight (rateIn d)) (heldIn d)
 
 -- the records and the samples of some days
 abbrev pub recordsOf : List ClosedDay → List DayAnswer
@@ -66,16 +77,19 @@ abbrev pub Each : (ClosedDay → Type 0) → List ClosedDay → Type 0
 Each P [] = Unit
 Each P (d ∷ ds) = P d × Each P ds
 
--- M is 864000 * D, G + 1 becomes G + 3 and r + 1 becomes r + 2
+-- M is 3456000 * D, G + 1 becomes G + 3 and r + 1 becomes r + 2
+abbrev pub meanTicks : ℕ
+meanTicks = 3456000
+
 abbrev pub MeanAccurate : ℕ → List ClosedDay → Reading → Type 0
-MeanAccurate K days = Accurate 3 2 0 K (dayTicks * length days) (samplesOf days)
+MeanAccurate K days = Accurate 3 2 0 K (meanTicks * length days) (samplesOf days)
 
 -- a mean is given where the number of days is right, and such days are refused for their number alone
 abbrev pub MeanDemanded : (fewest most K : ℕ) → List ClosedDay → Outcome Reading → Type 0
 MeanDemanded fewest most K days (given r) = (isCountWrong fewest most (length days) ≡ false) × MeanAccurate K days r
 MeanDemanded fewest most K days (refused n) = (n ≡ 13) × (isCountWrong fewest most (length days) ≡ true)
 
--- for every K and all such days, whatever their calls: the mean of a week and that of a year
+-- for every K and all such days, whatever their rates and their calls: the mean of a week and that of a year
 unfoldable pub MeanClaim : Type 0
 MeanClaim =
     (K : ℕ) (days : List ClosedDay) → Each Measured days

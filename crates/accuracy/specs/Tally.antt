@@ -8,7 +8,9 @@ use Rattle.quantity.specs.Rules.{Rule, firstOf, outcome, follow}
 use Rattle.level.specs.Accuracy.{Sample, weigh}
 use Rattle.event.specs.Event.{eventOf}
 use Rattle.event.specs.Stretch.{stretchOf, stretchFirst, stretchEnd}
+use Rattle.clock.specs.declared.Settings.{Settings}
 use Rattle.ledger.specs.Book.{sumOf}
+use Rattle.ledger.specs.Day.{Opening, openedSettings}
 use Rattle.admission.specs.Checks.{Offering, offerChecks, inDaytime}
 use Rattle.method.specs.Method.{Counts}
 use Rattle.method.specs.declared.Count.{Count}
@@ -18,7 +20,7 @@ pub data Call : Type 0 where
   offering : Offering → Call
   closing : (before after : ℕ) → Call
 
--- a stretch of the list, with its class and its period: its samples, and the time of the first and the time after the last
+-- a stretch of the list, with its class and its period: its samples, and the tick of the first and the tick after the last
 pub record Held : Type 0 where
   pub class : ℕ
   pub daytime : Bool
@@ -26,9 +28,10 @@ pub record Held : Type 0 where
   pub to : ℕ
   pub levels : List ℕ
 
--- the book, an end, a count for each class and period, and a list of stretches with their classes and periods, the latest first. A period is given by a
+-- the settings, the book, an end, a count for each class and period, and a list of stretches with their classes and periods, the latest first. A period is given by a
 -- Bool: true is daytime.
 pub record Tally : Type 0 where
+  pub settings : Settings
   pub book : Bool → List ℕ
   pub end : ℕ
   pub count : Bool → List ℕ
@@ -39,27 +42,29 @@ abbrev pub bookOf : List ℕ → List ℕ → Bool → List ℕ
 bookOf daytime night p = cond p daytime night
 
 -- it starts with the fresh day's end, counts 0 and no stretch
-abbrev pub started : List ℕ → List ℕ → Tally
-started daytime night =
+abbrev pub started : Opening → Tally
+started o =
     record {
-      book = bookOf daytime night;
+      settings = openedSettings o;
+      book = bookOf (o .daytime) (o .night);
       end = 0;
-      count = λ p. replicate (length daytime) 0;
+      count = λ p. replicate (length (o .daytime)) 0;
       stretches = [];
     }
 
 -- the period of an offer, by its peak
-abbrev pub periodIn : Offering → Bool
-periodIn o = inDaytime (o .recording) (eventOf (o .samples))
+abbrev pub periodIn : Settings → Offering → Bool
+periodIn c o = inDaytime c (o .recording) (eventOf (o .samples))
 
 -- the refusals of an offer in their order, 8 against the end and 9 against the counts
 abbrev pub tallyChecks : Tally → Offering → List Rule
 tallyChecks t o =
     let class = o .recording .class in
-    offerChecks o
+    let p = periodIn (t .settings) o in
+    offerChecks (t .settings .rate) o
     (leb (length (t .book true)) class)
     (t .end)
-    (eqb (getD (t .count (periodIn o)) class 0) (getD (t .book (periodIn o)) class 0))
+    (eqb (getD (t .count p) class 0) (getD (t .book p) class 0))
 
 -- the count of a class and period is raised by one
 abbrev pub sameAs : Bool → Bool → Bool
@@ -74,14 +79,16 @@ countRaised count p class q = cond (sameAs p q) (set (count q) class (getD (coun
 abbrev pub joined : Tally → Offering → Tally
 joined t o =
     let r = o .recording in
+    let p = periodIn (t .settings) o in
     record {
+      settings = t .settings;
       book = t .book;
       end = r .start .0 + stretchEnd (o .samples);
-      count = countRaised (t .count) (periodIn o) (r .class);
+      count = countRaised (t .count) p (r .class);
       stretches =
           record {
             class = r .class;
-            daytime = periodIn o;
+            daytime = p;
             from = r .start .0 + stretchFirst (o .samples);
             to = r .start .0 + stretchEnd (o .samples);
             levels = stretchOf (o .samples);

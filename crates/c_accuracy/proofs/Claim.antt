@@ -18,7 +18,7 @@ use Rattle.quantity.proofs.Refusing.{pass}
 use Rattle.quantity.proofs.Tests.{neither, test}
 use Rattle.level.specs.Level.{levelOf}
 use Rattle.ledger.specs.Book.{mostClasses, sumOf}
-use Rattle.ledger.specs.Day.{freshDay, levelsByClass}
+use Rattle.ledger.specs.Day.{openedDay, levelsByClass}
 use Rattle.admission.specs.Checks.{Offering, dayChecks}
 use Rattle.offering.specs.Offer.{Accepted, offered}
 use Rattle.ledger.specs.declared.ClassHighest.{ClassHighest}
@@ -75,7 +75,7 @@ plain-offer : (d : Day) (o : Offering) → Plain (λ a. Told (a .exposure)) (off
 plain-offer d o = go (firstOf (dayChecks d o)) refl
   where
     go : (n : ℕ) → firstOf (dayChecks d o) ≡ n → Plain (λ a. Told (a .exposure)) (offeredBy d o n .answer)
-    go zero h = told-exposure o _ _ _ h
+    go zero h = told-exposure (d .settings .rate) o _ _ _ h
     go (suc n) h = omega arith
 
 low-told : (h : HighestLevel) → Low h → ToldHighest (highestReading h)
@@ -97,11 +97,11 @@ closing-told : (d : Day) → Reached d → (before after : ℕ) → firstOf (clo
 closing-told d r before after h =
     let c = countsOf d in
     let p = pass (closeRules before after c) (search needs) h in
-    let divides = divisor-positive c (not-false _ (p .1 .0)) in
+    let divides = divisor-positive (d .settings .rate) c (not-false _ (p .1 .0)) in
     let by-day = sum-most (d .daytime .booked) (r .fits .daytime .booked-narrow) in
     let by-night = sum-most (d .night .booked) (r .fits .night .booked-narrow) in
     let weight : sumOf (d .daytime .booked) + 10 * sumOf (d .night .booked) ≤ 10 ^ 8 = omega (arith, r .fits .daytime .booked, r .fits .night .booked) in
-    let f = formulaBy (methodBy c) (c .totals) in
+    let f = formulaBy (d .settings .rate) (methodBy c) (c .totals) in
     test (methodOneHolds (c .totals))
     (λ t. told-weighted (f .offset) (f .divisor) divides (rw t (lit≤ tt)) (rw t (lit≤ tt)) (r .energy true) (r .energy false))
     (λ t. told-weighted (f .offset) (f .divisor) divides (rw t weight) (rw t weight) (r .energy true) (r .energy false))
@@ -127,33 +127,33 @@ plain-mean fewest most days some few = go (firstOf (meanRules (isCountWrong fewe
 -- offers and closings
 pub c-claim : CClaim
 unfolding CClaim Claim
-c-claim K day daytime night e calls call = go call
+c-claim K day opening e calls call = go call
   where
-    go : (call : CCall) → CDemanded K (tallyOf (started daytime night) (map callOf calls)) (wordsOf day daytime night calls) call
+    go : (call : CCall) → CDemanded K (tallyOf (started opening) (map callOf calls)) (wordsOf day opening calls) call
     go (offer o exposure lmax) =
-        let w = whole day daytime night e calls in
-        let words = wordsOf day daytime night calls in
+        let w = whole day opening e calls in
+        let words = wordsOf day opening calls in
         let d = dayFrom words in
-        subst (OfferDemanded K (tallyOf (started daytime night) (map callOf calls)) o)
+        subst (OfferDemanded K (tallyOf (started opening) (map callOf calls)) o)
         (ap (λ (x : Day). offered x o .answer) (sym (w .1))
         ∙ sym (offer-seen (lentTo words exposure lmax) (dayWords (offered d o .day)) (offered d o .answer) (plain-offer d o)))
-        (claim K daytime night (w .0) (map callOf calls) (offering o))
+        (claim K opening (w .0) (map callOf calls) (offering o))
     go (close before after lent) =
-        let w = whole day daytime night e calls in
-        let d = dayFrom (wordsOf day daytime night calls) in
-        let t = tallyOf (started daytime night) (map callOf calls) in
+        let w = whole day opening e calls in
+        let d = dayFrom (wordsOf day opening calls) in
+        let t = tallyOf (started opening) (map callOf calls) in
         close-seen K t before after lent (closed d before after) (classesGiven d (closed d before after))
         (plain-closing d (w .2) before after)
         (classes-told d (w .2 .byClass) (closed d before after))
-        (subst (λ (x : Day). Demanded K t x (closing before after)) (sym (w .1)) (claim K daytime night (w .0) (map callOf calls) (closing before after)))
+        (subst (λ (x : Day). Demanded K t x (closing before after)) (sym (w .1)) (claim K opening (w .0) (map callOf calls) (closing before after)))
 
 -- the level of a record that calls through C wrote is that of the closing
 wrote-level : (d : ClosedDay) (n : ℕ) → Wrote d n → recordLevel n ≡ reading (d .kept .level)
 wrote-level d n x =
-    let w = whole (x .day) (d .daytime) (d .night) (x .opens) (x .calls) in
-    let words = wordsOf (x .day) (d .daytime) (d .night) (x .calls) in
+    let w = whole (x .day) (d .opening) (x .opens) (x .calls) in
+    let words = wordsOf (x .day) (d .opening) (x .calls) in
     let is : closed (dayFrom words) (d .before) (d .after) ≡ given (d .closing) =
-    ap (λ (y : Day). closed y (d .before) (d .after)) (w .1 ∙ ap (dayAfterCalls (freshDay (d .daytime) (d .night))) (x .same)) ∙ d .closes in
+    ap (λ (y : Day). closed y (d .before) (d .after)) (w .1 ∙ ap (dayAfterCalls (openedDay (d .opening))) (x .same)) ∙ d .closes in
     let told = subst PlainClosing is (plain-closing (dayFrom words) (w .2) (d .before) (d .after)) in
     let written : closeLeaves (x .lent) words (d .before) (d .after) .lent .dayRecord ≡ recordNumber (d .closing .ldn) (d .closing .method) = rw is in
     ap recordLevel (sym (x .is) ∙ written)

@@ -18,8 +18,8 @@ use Rattle.limbs.proofs.Digits.{value-limbsOf}
 use Rattle.event.specs.Event.{eventOf}
 use Rattle.exposure.specs.Exposure.{energyOf}
 use Rattle.event.specs.Window.{highest}
-use Rattle.ledger.specs.Book.{mostClasses, bookRules}
-use Rattle.ledger.specs.Day.{Answered, noneInClass, freshDay, noDay, periodOf, withPeriod, energyIn}
+use Rattle.ledger.specs.Book.{mostClasses}
+use Rattle.ledger.specs.Day.{Answered, noneInClass, noDay, Opening, openRules, openedDay, periodOf, withPeriod, energyIn}
 use Rattle.admission.specs.Checks.{Offering, dayChecks, inDaytime}
 use Rattle.offering.specs.Offer.{Accepted, withEvent, raised, raisedInClass, admitted, offered}
 use Rattle.ledger.specs.declared.ClassHighest.{ClassHighest}
@@ -51,21 +51,21 @@ pub record Reached (d : Day) : Type 0 where
   pub byClass : AllLow (d .«highest_by_class»)
 
 -- an opening and an offer by the number of the refusal, 0 where there is none
-abbrev openedBy : (daytime night : List ℕ) → ℕ → Answered Unit
-openedBy daytime night n =
-    follow (outcome n (freshDay daytime night)) (λ k. record { day = noDay; answer = refused k }) (λ d. record { day = d; answer = given tt })
+abbrev openedBy : Opening → ℕ → Answered Unit
+openedBy o n =
+    follow (outcome n (openedDay o)) (λ k. record { day = noDay; answer = refused k }) (λ d. record { day = d; answer = given tt })
 
 abbrev pub offeredBy : Day → Offering → ℕ → Answered Accepted
 offeredBy d o n = follow (outcome n (admitted d o)) (λ k. record { day = d; answer = refused k }) (λ a. a)
 
 -- an opening that is not refused leaves the words of the fresh day
-module _ (day daytime night : List ℕ) where
-  pub opens : openLeaves day daytime night .answer ≡ 0
-      → (firstOf (bookRules daytime night) ≡ 0) × (openLeaves day daytime night .lent ≡ dayWords (freshDay daytime night)) × DayFits (freshDay daytime night)
-  opens e = go (firstOf (bookRules daytime night)) refl e (opened-fits daytime night)
+module _ (day : List ℕ) (o : Opening) where
+  pub opens : openLeaves day o .answer ≡ 0
+      → (firstOf (openRules o) ≡ 0) × (openLeaves day o .lent ≡ dayWords (openedDay o)) × DayFits (openedDay o)
+  opens e = go (firstOf (openRules o)) refl e (opened-fits o)
     where
-      go : (n : ℕ) → firstOf (bookRules daytime night) ≡ n → leaves day (openedBy daytime night n .answer) (λ _. dayWords (openedBy daytime night n .day)) .answer ≡ 0 → DayFits (openedBy daytime night n .day)
-          → (firstOf (bookRules daytime night) ≡ 0) × (leaves day (openedBy daytime night n .answer) (λ _. dayWords (openedBy daytime night n .day)) .lent ≡ dayWords (freshDay daytime night)) × DayFits (freshDay daytime night)
+      go : (n : ℕ) → firstOf (openRules o) ≡ n → leaves day (openedBy o n .answer) (λ _. dayWords (openedBy o n .day)) .answer ≡ 0 → DayFits (openedBy o n .day)
+          → (firstOf (openRules o) ≡ 0) × (leaves day (openedBy o n .answer) (λ _. dayWords (openedBy o n .day)) .lent ≡ dayWords (openedDay o)) × DayFits (openedDay o)
       go zero h e f = (h, refl, f)
       go (suc n) h e f = absurd (omega arith)
 
@@ -73,11 +73,11 @@ none-low : (n : ℕ) → AllLow (replicate n noneInClass)
 none-low zero = tt
 none-low (suc n) = (tt, none-low n)
 
-fresh-reached : (daytime night : List ℕ) → DayFits (freshDay daytime night) → Reached (freshDay daytime night)
+fresh-reached : (o : Opening) → DayFits (openedDay o) → Reached (openedDay o)
 unfolding value
-fresh-reached daytime night f = record { fits = f; energy = none; highest = tt; byClass = none-low mostClasses }
+fresh-reached o f = record { fits = f; energy = none; highest = tt; byClass = none-low mostClasses }
   where
-    none : (p : Bool) → energyIn (periodOf (freshDay daytime night) p) < base ^ 4
+    none : (p : Bool) → energyIn (periodOf (openedDay o) p) < base ^ 4
     none true = lit< tt
     none false = lit< tt
 
@@ -110,7 +110,7 @@ pub offered-reached : (d : Day) (o : Offering) → Reached d → Reached (offere
 offered-reached d o r = go (firstOf (dayChecks d o)) refl (offered-fits d o (r .fits))
   where
     by-day : Bool
-    by-day = inDaytime (o .recording) (eventOf (o .samples))
+    by-day = inDaytime (d .settings) (o .recording) (eventOf (o .samples))
 
     after : Period
     after = withEvent (periodOf d by-day) (o .recording .class) (energyOf (o .samples))
@@ -125,16 +125,16 @@ offered-reached d o r = go (firstOf (dayChecks d o)) refl (offered-fits d o (r .
         h
 
     entered : (p : Bool) → energyIn (periodOf (admitted d o .day) p) < base ^ 4
-    entered true = with-energy d (inDaytime (o .recording) (eventOf (o .samples))) (o .recording .class) (energyOf (o .samples)) (r .energy) true
-    entered false = with-energy d (inDaytime (o .recording) (eventOf (o .samples))) (o .recording .class) (energyOf (o .samples)) (r .energy) false
+    entered true = with-energy d (inDaytime (d .settings) (o .recording) (eventOf (o .samples))) (o .recording .class) (energyOf (o .samples)) (r .energy) true
+    entered false = with-energy d (inDaytime (d .settings) (o .recording) (eventOf (o .samples))) (o .recording .class) (energyOf (o .samples)) (r .energy) false
 
     go : (n : ℕ) → firstOf (dayChecks d o) ≡ n → DayFits (offeredBy d o n .day) → Reached (offeredBy d o n .day)
     go zero h f =
         record {
           fits = f;
           energy = entered;
-          highest = entered-low (admits o _ _ _ h .level);
-          byClass = classes-low (admits o _ _ _ h .level);
+          highest = entered-low (admits (d .settings .rate) o _ _ _ h .level);
+          byClass = classes-low (admits (d .settings .rate) o _ _ _ h .level);
         }
     go (suc n) h f = r
 
@@ -163,16 +163,16 @@ module _ where
       let rest = after-calls (wordsAfter words c) cs (rw s (after-reached (dayFrom words) c r)) in
       (rest .0 ∙ ap (λ (d : Day). dayAfterCalls d (map callOf cs)) s, rest .1)
 
--- the whole: the book opens, the words hold the day of the list, and it is such a day
-pub whole : (day daytime night : List ℕ) → openLeaves day daytime night .answer ≡ 0 → (calls : List CCall)
-    → (firstOf (bookRules daytime night) ≡ 0)
-    × (dayFrom (wordsOf day daytime night calls) ≡ dayAfterCalls (freshDay daytime night) (map callOf calls))
-    × Reached (dayFrom (wordsOf day daytime night calls))
-whole day daytime night e calls =
-    let o = opens day daytime night e in
-    let fresh = inverse (freshDay daytime night) (o .2) in
-    let a = after-calls (dayWords (freshDay daytime night)) calls (rw fresh (fresh-reached daytime night (o .2))) in
-    (o .0, rw (o .1) (rw fresh at (a .0)), rw (o .1) (a .1))
+-- the whole: settings and book open, the words hold the day of the list, and it is such a day
+pub whole : (day : List ℕ) (o : Opening) → openLeaves day o .answer ≡ 0 → (calls : List CCall)
+    → (firstOf (openRules o) ≡ 0)
+    × (dayFrom (wordsOf day o calls) ≡ dayAfterCalls (openedDay o) (map callOf calls))
+    × Reached (dayFrom (wordsOf day o calls))
+whole day o e calls =
+    let first = opens day o e in
+    let fresh = inverse (openedDay o) (first .2) in
+    let a = after-calls (dayWords (openedDay o)) calls (rw fresh (fresh-reached o (first .2))) in
+    (first .0, rw (first .1) (rw fresh at (a .0)), rw (first .1) (a .1))
 
 pub held : HeldLaw
-held day daytime night e calls = whole day daytime night e calls .1
+held day o e calls = whole day o e calls .1

@@ -17,7 +17,9 @@ use Rattle.power.proofs.Scale.{e-mono, e-at, m-zero}
 use Rattle.limbs.specs.Value.{base}
 use Rattle.level.specs.Level.{levelOf}
 use Rattle.level.proofs.Answer.{Answers, answers}
-use Rattle.clock.specs.Clock.{dayTicks, samplesASecond}
+use Rattle.clock.specs.Clock.{samplesASecond}
+use Rattle.clock.specs.declared.Rate.{Rate}
+use Rattle.clock.proofs.Rates.{rate-positive, rate-most}
 use Rattle.exposure.specs.Exposure.{energyOf, exposureOf}
 use Rattle.event.specs.Stretch.{stretchEnd}
 use Rattle.event.proofs.Whole.{in-window}
@@ -45,14 +47,15 @@ pub told : (d M S : ℕ) → 0 < M → S < e top → Told (levelOf d M S)
 told d M S p h = told-answers d M S (levelOf d M S) p h (answers d M S p)
 
 -- the exposure level of an offer that no rule refuses
-pub told-exposure : (o : Offering) (unbooked : Bool) (end : ℕ) (used : Bool) → firstOf (offerChecks o unbooked end used) ≡ 0 → Told (exposureOf (o .samples))
-told-exposure o unbooked end used h =
-    let a = admits o unbooked end used h in
+pub told-exposure : (rate : Rate) (o : Offering) (unbooked : Bool) (end : ℕ) (used : Bool) → firstOf (offerChecks rate o unbooked end used) ≡ 0
+    → Told (exposureOf rate (o .samples))
+told-exposure rate o unbooked end used h =
+    let a = admits rate o unbooked end used h in
     let s = o .samples in
     let energy : energyOf s ≤ e highestSample * stretchEnd s = omega (arith, stretch-energy highestSample s (a .level)) in
-    let ticks : stretchEnd s ≤ dayTicks = omega (arith, in-window s .end, a .past) in
-    let most : e highestSample * dayTicks < e top = rw (at-top, e-at 14 0 (lit≤ tt), m-zero) (lit< tt) in
-    told 0 samplesASecond (energyOf s) (lit< tt) (lt-of-le-of-lt (le-trans energy (mul-le-mul-left (e highestSample) ticks)) most)
+    let ticks : stretchEnd s ≤ 3456000 = omega (arith, in-window s .end, a .past, rate-most rate) in
+    let most : e highestSample * 3456000 < e top = rw (at-top, e-at 14 0 (lit≤ tt), m-zero) (lit< tt) in
+    told 0 (samplesASecond rate) (energyOf s) (rate-positive rate) (lt-of-le-of-lt (le-trans energy (mul-le-mul-left (e highestSample) ticks)) most)
 
 -- the level of two energies below 2^128 with weights below 10^8
 pub told-weighted : (d M : ℕ) {a b x y : ℕ} → 0 < M → a ≤ 10 ^ 8 → b ≤ 10 ^ 8 → x < base ^ 4 → y < base ^ 4 → Told (levelOf d M (a * x + b * y))

@@ -1,6 +1,7 @@
 -- Lists of calls through C on the words of a day: what they leave in the words.
 use mathlib.Core.List.{List, [], _∷_}
 use Prim.Native.Nat.{ℕ}
+use Rattle.ledger.specs.Day.{Opening}
 use Rattle.admission.specs.Checks.{Offering}
 use Rattle.accuracy.specs.Tally.{Call, offering, closing}
 use Rattle.c_interface.specs.Calls.{OfferLent, CloseLent, openLeaves, offerLeaves}
@@ -29,5 +30,5 @@ wordsAfterCalls day [] = day
 wordsAfterCalls day (c ∷ cs) = wordsAfterCalls (wordsAfter day c) cs
 
 -- the words after opening and a list of calls
-abbrev pub wordsOf : (day daytime night : List ℕ) → List CCall → List ℕ
-wordsOf day daytime night = wordsAfterCalls (openLeaves day daytime night .lent)
+abbrev pub wordsOf : (day : List ℕ) → Opening → List CCall → List ℕ
+wordsOf day o = wordsAfterCalls (openLeaves day o .lent)

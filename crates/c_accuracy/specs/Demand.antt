@@ -6,7 +6,7 @@ use mathlib.Core.Option.{Option}
 use lib.ListN.{getD}
 use Rattle.quantity.specs.Answers.{Reading}
 use Rattle.quantity.specs.Rules.{Outcome, outcome}
-use Rattle.ledger.specs.Day.{freshDay}
+use Rattle.ledger.specs.Day.{Opening, openedDay}
 use Rattle.offering.specs.Offer.{Accepted}
 use Rattle.closing.specs.Close.{Closing}
 use Rattle.accuracy.specs.Tally.{Tally, started, tallyOf}
@@ -39,11 +39,11 @@ classesSeen l = classLevelsFrom (l .lent .highestByClass)
 abbrev pub meanSeen : Left ℕ → Outcome Reading
 meanSeen l = outcome (l .answer) (levelFrom (l .lent))
 
--- for every words, every book that opens and every list of calls: the words hold the day of the list
+-- for every words, all settings and every book that open, and every list of calls: the words hold the day of the list
 abbrev pub HeldLaw : Type 0
 HeldLaw =
-    (day daytime night : List ℕ) → openLeaves day daytime night .answer ≡ 0 → (calls : List CCall)
-    → dayFrom (wordsOf day daytime night calls) ≡ dayAfterCalls (freshDay daytime night) (map callOf calls)
+    (day : List ℕ) (o : Opening) → openLeaves day o .answer ≡ 0 → (calls : List CCall)
+    → dayFrom (wordsOf day o calls) ≡ dayAfterCalls (openedDay o) (map callOf calls)
 
 -- and for every K and one call more, what the caller reads stands in the demanded relation to the plain tally of the list
 abbrev pub CDemanded : ℕ → Tally → List ℕ → CCall → Type 0
@@ -54,17 +54,17 @@ CDemanded K t day (close before after lent) =
 
 unfoldable pub CClaim : Type 0
 CClaim =
-    (K : ℕ) (day daytime night : List ℕ) → openLeaves day daytime night .answer ≡ 0 → (calls : List CCall) (call : CCall)
-    → CDemanded K (tallyOf (started daytime night) (map callOf calls)) (wordsOf day daytime night calls) call
+    (K : ℕ) (day : List ℕ) (o : Opening) → openLeaves day o .answer ≡ 0 → (calls : List CCall) (call : CCall)
+    → CDemanded K (tallyOf (started o) (map callOf calls)) (wordsOf day o calls) call
 
 -- a record that calls through C wrote: an opening and calls with the arguments of the day, and a closing that is not refused
 pub record Wrote (d : ClosedDay) (written : ℕ) : Type 0 where
   pub day : List ℕ
-  pub opens : openLeaves day (d .daytime) (d .night) .answer ≡ 0
+  pub opens : openLeaves day (d .opening) .answer ≡ 0
   pub calls : List CCall
   pub same : map callOf calls ≡ d .calls
   pub lent : CloseLent
-  pub is : closeLeaves lent (wordsOf day (d .daytime) (d .night) calls) (d .before) (d .after) .lent .dayRecord ≡ written
+  pub is : closeLeaves lent (wordsOf day (d .opening) calls) (d .before) (d .after) .lent .dayRecord ≡ written
 
 abbrev pub AllWrote : List ClosedDay → List ℕ → Type 0
 AllWrote [] [] = Unit

@@ -5,7 +5,8 @@ use Prim.Native.Nat.{ℕ}
 use lib.IntN.{ℤ}
 use lib.ListN.{length, getD, set}
 use Rattle.quantity.specs.Rules.{Outcome, outcome, follow, Rule, firstOf}
-use Rattle.ledger.specs.Day.{opened, timeAt}
+use Rattle.clock.specs.Clock.{tickAt}
+use Rattle.ledger.specs.Day.{Opening, opened}
 use Rattle.admission.specs.Checks.{Offering}
 use Rattle.offering.specs.Offer.{offered}
 use Rattle.closing.specs.Close.{Closed, dayClosed}
@@ -27,14 +28,14 @@ leaves lent result written =
     follow result (λ n. record { answer = n; lent = lent }) (λ value. record { answer = 0; lent = written value })
 
 -- opening: the words of the fresh day
-abbrev pub openLeaves : List ℕ → (daytime night : List ℕ) → Left (List ℕ)
-openLeaves day daytime night = leaves day (opened daytime night .answer) (λ _. dayWords (opened daytime night .day))
+abbrev pub openLeaves : List ℕ → Opening → Left (List ℕ)
+openLeaves day o = leaves day (opened o .answer) (λ _. dayWords (opened o .day))
 
 -- an offer by its numbers
 abbrev pub offeringAs : (start class wind : ℕ) (wet : Bool) (background : ℕ) → List ℕ → Offering
 offeringAs start class wind wet background samples =
     record {
-      recording = record { start = timeAt start; class = class; wind = wind; wet = wet; background = record { 0 = background } };
+      recording = record { start = tickAt start; class = class; wind = wind; wet = wet; background = record { 0 = background } };
       samples = samples;
     }
 

@@ -3,7 +3,7 @@
 ghost use mathlib.Core.Path.{_≡_};
 ghost use Prim.Native.Nat.{_<_, _≤_};
 ghost use Rattle.quantity.specs.Answers.{reading, methodNumber, highestReading};
-ghost use Rattle.ledger.specs.Day.{levelsByClass};
+ghost use Rattle.ledger.specs.Day.{openingOf, levelsByClass};
 ghost use Rattle.mean.specs.Mean.{meanOutcome, meanOf};
 ghost use Rattle.land.specs.Answers.{marginReading, findingReading};
 ghost use Rattle.c_interface.specs.Numbers.{
@@ -47,7 +47,7 @@ use quantity::Level;
 use quantity::Method;
 use quantity::Reading;
 use quantity::Refusal;
-use quantity::Time;
+use quantity::Tick;
 
 // What stands for 'below scale' and for no Lmax.
 const NOTHING: u32 = 4294967295;
@@ -123,16 +123,23 @@ fn record_of(ldn: Reading, method: Method) -> u64
     level_number(ldn) as u64 + UPPER * (quantity::method_number(method) as u64)
 }
 
-// Opens a day on a book: for each class the flights by day and by night.
+// Opens a day: the samples a second of its terminal, the first and the last daytime tick, and the book, for each class the flights by day and by night.
 #[no_mangle]
-pub extern "C" fn moatburdock_open_day(day: &mut [u32; 320], daytime: &[u16], night: &[u16]) -> u8
+pub extern "C" fn moatburdock_open_day(
+    day: &mut [u32; 320],
+    rate: u32,
+    first: u32,
+    last: u32,
+    daytime: &[u16],
+    night: &[u16],
+) -> u8
     ensures { λ r.
         ⌜
         record { answer = r; lent = now (day .exit) }
-        ≡ openLeaves (now (day .entry)) (now (daytime .entry)) (now (night .entry))
+        ≡ openLeaves (now (day .entry)) (openingOf rate first last (now (daytime .entry)) (now (night .entry)))
         ⌝ }
 {
-    let opened = ledger::open_day(daytime, night);
+    let opened = ledger::open_day(rate, Tick(first), Tick(last), daytime, night);
     let answer = opened.answer;
     match answer {
         Check::Refused(refusal) => quantity::refusal_number(refusal),
@@ -144,7 +151,7 @@ pub extern "C" fn moatburdock_open_day(day: &mut [u32; 320], daytime: &[u16], ni
     }
 }
 
-// Offers an event to a day: its start in tenths of a second after midnight, the class of the flight, the wind in tenths of m/s, rain, snow or thunder,
+// Offers an event to a day: its start in ticks after midnight, the class of the flight, the wind in tenths of m/s, rain, snow or thunder,
 // the background level and the samples. Gives LAE and Lmax.
 #[no_mangle]
 pub extern "C" fn moatburdock_offer(
@@ -167,7 +174,7 @@ pub extern "C" fn moatburdock_offer(
         ⌝ }
 {
     let recording = Recording {
-        start: Time(start),
+        start: Tick(start),
         class,
         wind,
         wet,

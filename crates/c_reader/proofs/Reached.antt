@@ -9,12 +9,12 @@ use lib.Dec.{ltb}
 use Rattle.quantity.specs.Rules.{Outcome, refused, given, firstOf}
 use Rattle.quantity.proofs.Outcomes.{given-value, followed}
 use Rattle.quantity.proofs.Tests.{test}
-use Rattle.ledger.specs.Day.{noDay}
+use Rattle.ledger.specs.Day.{noDay, openingOf}
 use Rattle.admission.specs.Checks.{offeringOf}
 use Rattle.ledger.specs.declared.Day.{Day}
 use Rattle.day_words.specs.Words.{DayFits}
 use Rattle.day_words.proofs.Reached.{opened-fits, offered-fits}
-use Rattle.day_file.specs.Records.{bookSection, bookBytes, dayFlights, nightFlights, Header, headerRules, headerAt, EventFields, eventRecord, recordSamples}
+use Rattle.day_file.specs.Records.{rateOfFile, firstOfFile, lastOfFile, bookSection, bookEnd, dayFlights, nightFlights, Header, headerRules, headerAt, EventFields, eventRecord, recordSamples}
 use Rattle.day_file.specs.File.{bookOpened, startOf, takenOf}
 use Rattle.steps.specs.declared.Reader.{Reader}
 use Rattle.steps.specs.declared.Stage.{Stage}
@@ -26,7 +26,7 @@ use Rattle.c_reader.specs.Run.{Bytes}
 
 no-day-fits : DayFits noDay
 unfolding firstOf
-no-day-fits = opened-fits [] []
+no-day-fits = opened-fits (openingOf 0 0 0 [] [])
 
 pub fresh-fits : ReaderFits freshReader
 fresh-fits = record { day = no-day-fits; count = omega arith; done = omega arith }
@@ -37,12 +37,12 @@ start-fits window = go (bookSection window) refl
   where
     go : (o : Outcome ℕ) → bookSection window ≡ o → DayFits (startOf window .day)
     go (refused n) e = rw e no-day-fits
-    go (given classes) e = rw e (opened-fits (dayFlights window classes) (nightFlights window classes))
+    go (given classes) e = rw e (opened-fits (openingOf (rateOfFile window) (firstOfFile window) (lastOfFile window) (dayFlights window classes) (nightFlights window classes)))
 
 event-fits : (d : Day) (window : List ℕ) → DayFits d → DayFits (takenOf d window .day)
-event-fits d window f = go (eventRecord window) refl
+event-fits d window f = go (eventRecord (d .settings .rate) window) refl
   where
-    go : (o : Outcome EventFields) → eventRecord window ≡ o → DayFits (takenOf d window .day)
+    go : (o : Outcome EventFields) → eventRecord (d .settings .rate) window ≡ o → DayFits (takenOf d window .day)
     go (refused n) e = rw e f
     go (given x) e = rw e (offered-fits d (offeringOf (x .recording) (recordSamples window (x .count))) f)
 
@@ -60,7 +60,7 @@ few-events window {h} bytes e = go (bookSection window) refl
         let wrong = rw t at e in
         let z : _≡_ {A = ℕ} 0 1 = cc in
         absurd (omega arith)
-    go (given classes) t = at-header (bookBytes classes) (followed (bookOpened window classes .answer) (rw t at e) .2)
+    go (given classes) t = at-header (bookEnd classes) (followed (bookOpened window classes .answer) (rw t at e) .2)
 
 -- a step
 abbrev Fits : Next → Type 0

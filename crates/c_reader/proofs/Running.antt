@@ -13,12 +13,12 @@ use Rattle.steps.specs.declared.Reader.{Reader}
 use Rattle.steps.specs.declared.Stage.{Stage}
 use Rattle.steps.specs.declared.Stage.the-variants as stages
 use Rattle.steps.specs.Machine.{freshReader, isDone, lineFor, Next, startStep, eventStep, goesOn, stepOf, asks}
-use Rattle.steps.specs.Run.{goes-on, Run, at-end, by-step}
+use Rattle.steps.specs.Run.{Says, goes-on, Run, at-end, by-step}
 use Rattle.steps.proofs.Ending.{by-answer, ends-law}
 use Rattle.steps.proofs.Running.{run-law}
 use Rattle.c_reader.specs.Words.{readerWords, readerFrom, ReaderFits}
-use Rattle.c_reader.specs.Calls.{cameNumber, lineOver}
-use Rattle.c_reader.specs.Run.{Bytes, Calls, by-last, by-call, CallsLaw, CallsEnd, CallsEndLaw}
+use Rattle.c_reader.specs.Calls.{StepLent, cameNumber, lineOver, stepLeaves}
+use Rattle.c_reader.specs.Run.{Bytes, printedOf, Calls, by-last, by-call, CallsLaw, CallsEnd, CallsEndLaw}
 use Rattle.c_reader.proofs.Inverse.{day-first, inverse}
 use Rattle.c_reader.proofs.Reached.{fresh-fits, step-fits}
 
@@ -62,28 +62,49 @@ record Ran (r : Reader) (rest printed end : List ℕ) : Type 0 where
   words : end ≡ readerWords last
   run : Run r rest printed last
 
+-- a call that is the last, and a call before others
+module _ (words rest line window behind : List ℕ) (ended : Bool) (e : rest ≡ window ++ behind) (says : Says ended behind) (f : ReaderFits (readerFrom words)) (bytes : Bytes rest) where
+  abbrev next : Next
+  next = stepOf (readerFrom words) window ended
+
+  abbrev left : StepLent
+  left = stepLeaves words line window ended .lent
+
+  fits : ReaderFits (next .reader)
+  fits = step-fits (readerFrom words) window ended f (bytes-front window behind (rw e at bytes))
+
+  -- the words that it leaves stand for the next reader
+  same : readerFrom (left .reader) ≡ next .reader
+  same = inverse (next .reader) fits
+
+  fits-again : ReaderFits (readerFrom (left .reader))
+  fits-again = rw same fits
+
+  ran-last : 2 < stepLeaves words line window ended .answer → Ran (readerFrom words) rest (printedOf left) (left .reader)
+  ran-last many =
+      let text = lineFor (next .came) in
+      record {
+        last = next .reader;
+        fits = fits;
+        words = refl;
+        run = rw (printed-line text line, ← append-nil text) (by-step window behind ended e says (at-end (last-law (readerFrom words) window ended many)));
+      }
+
+  ran-more : {printed end : List ℕ} → Ran (readerFrom (left .reader)) (drop (left .used) rest) printed end → Ran (readerFrom words) rest (printedOf left ++ printed) end
+  ran-more others =
+      record {
+        last = others .last;
+        fits = others .fits;
+        words = others .words;
+        run = rw (printed-line (lineFor (next .came)) line) (by-step window behind ended e says (rw same at others.run));
+      }
+
 ran : {words rest printed end : List ℕ} → Calls words rest printed end → ReaderFits (readerFrom words) → Bytes rest → Ran (readerFrom words) rest printed end
 ran (by-last {words = words} {rest = rest} line window behind ended e says many) f bytes =
-    let r = readerFrom words in
-    let n = stepOf r window ended in
-    record {
-      last = n .reader;
-      fits = step-fits r window ended f (bytes-front window behind (rw e at bytes));
-      words = refl;
-      run = rw (printed-line (lineFor (n .came)) line, ← append-nil (lineFor (n .came))) (by-step window behind ended e says (at-end (last-law r window ended many)));
-    }
+    ran-last words rest line window behind ended e says f bytes many
 ran (by-call {words = words} {rest = rest} line window behind ended e says more) f bytes =
-    let r = readerFrom words in
-    let n = stepOf r window ended in
-    let fits = step-fits r window ended f (bytes-front window behind (rw e at bytes)) in
-    let same = inverse (n .reader) fits in
-    let next = ran more (rw same fits) (bytes-left (n .used) rest bytes) in
-    record {
-      last = next .last;
-      fits = next .fits;
-      words = next .words;
-      run = rw (printed-line (lineFor (n .came)) line) (by-step window behind ended e says (rw same at next.run));
-    }
+    ran-more words rest line window behind ended e says f bytes
+    (ran more (fits-again words rest line window behind ended e says f bytes) (bytes-left (stepLeaves words line window ended .lent .used) rest bytes))
 
 pub calls-law : CallsLaw
 calls-law file printed end bytes calls =

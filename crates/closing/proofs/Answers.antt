@@ -3,15 +3,18 @@ use mathlib.Core.Path.{_≡_, sym}
 use mathlib.Core.Bool.{true, false, not, _||_}
 use mathlib.Core.List.{[], _∷_}
 use Prim.Native.Nat.{ℕ, _<_}
+use native.Mathlib.Nat.{mul-pos}
 use native.Mathlib.Omega.{arith}
 use borrow.Author.Needs.{needs}
 use borrow.Author.Tests.{not-false, leb-true}
-use lib.Dec.{leb, ltb, eqb, lit<}
+use lib.Dec.{leb, ltb, eqb}
 use Rattle.quantity.specs.Answers.{Reading, highestReading}
 use Rattle.quantity.specs.Rules.{firstOf, refused, given}
 use Rattle.quantity.proofs.Outcomes.{given-value, refused-alike, given-alike}
 use Rattle.quantity.proofs.Refusing.{skip, stop, pass}
 use Rattle.quantity.proofs.Tests.{test, both}
+use Rattle.clock.specs.declared.Rate.{Rate}
+use Rattle.clock.proofs.Rates.{rate-positive}
 use Rattle.ledger.specs.Book.{mostClasses}
 use Rattle.ledger.specs.Day.{energyIn}
 use Rattle.ledger.specs.declared.Day.{Day}
@@ -20,18 +23,19 @@ use Rattle.closing.specs.Formula.{formulaBy, levelBy}
 use Rattle.closing.specs.Close.{largestDrift, closeRules, closingOf, closed}
 
 -- a formula that is used divides by a number above 0
-pub divisor-positive : (c : Counts) → hasMethod c ≡ true → 0 < formulaBy (methodBy c) (c .totals) .divisor
-divisor-positive c h =
+pub divisor-positive : (rate : Rate) (c : Counts) → hasMethod c ≡ true → 0 < formulaBy rate (methodBy c) (c .totals) .divisor
+divisor-positive rate c h =
     let held = both (not (eqb (c .classes) 0)) (methodOneHolds (c .totals) || methodTwoHolds (c .totals) (c .class)) h .1 in
     let all = allOf (c .totals) in
     test (methodOneHolds (c .totals))
-    (λ t. rw t (lit< tt))
-    (λ f. rw f (omega (arith, leb-true 1 (all .events) (both (leb 1 (all .events)) (sharesHold all (c .class) mostClasses) (rw f at held) .0))))
+    (λ t. rw t (omega (arith, rate-positive rate)))
+    (λ f. rw f
+    (mul-pos (rate-positive rate) (leb-true 1 (all .events) (both (leb 1 (all .events)) (sharesHold all (c .class) mostClasses) (rw f at held) .0))))
 
-pub divides : (c : Counts) {m : ℕ} → methodOf c ≡ given m → 0 < formulaBy m (c .totals) .divisor
-divides c e =
+pub divides : (rate : Rate) (c : Counts) {m : ℕ} → methodOf c ≡ given m → 0 < formulaBy rate m (c .totals) .divisor
+divides rate c e =
     let g = given-value (firstOf (methodRule c ∷ [])) e in
-    rw (← g .1) (divisor-positive c (not-false _ (pass (methodRule c ∷ []) (search needs) (g .0) .0)))
+    rw (← g .1) (divisor-positive rate c (not-false _ (pass (methodRule c ∷ []) (search needs) (g .0) .0)))
 
 -- 11
 pub drifted : (day : Day) (before after : ℕ) → ltb largestDrift (distance before after) ≡ true → refused 11 ≡ closed day before after
@@ -50,7 +54,7 @@ module _ (day : Day) (before after : ℕ) (steady : ltb largestDrift (distance b
       rw rules (sym (refused-alike (firstOf (methodRule c ∷ [])) (methodBy c) (closingOf day) e))
 
   pub by-method : {m : ℕ} → methodOf (countsOf day) ≡ given m → {l : Reading}
-      → l ≡ levelBy (formulaBy m (totalsOf day)) (energyIn (day .daytime)) (energyIn (day .night))
+      → l ≡ levelBy (formulaBy (day .settings .rate) m (totalsOf day)) (energyIn (day .daytime)) (energyIn (day .night))
       → given (record {
         ldn = l;
         method = m;

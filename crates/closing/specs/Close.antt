@@ -51,7 +51,7 @@ abbrev pub closingOf : Day → Closing
 closingOf day =
     let c = countsOf day in
     record {
-      ldn = levelBy (formulaBy (methodBy c) (c .totals)) (energyIn (day .daytime)) (energyIn (day .night));
+      ldn = levelBy (formulaBy (day .settings .rate) (methodBy c) (c .totals)) (energyIn (day .daytime)) (energyIn (day .night));
       method = methodBy c;
       dayEvents = c .totals .daytime .events;
       nightEvents = c .totals .night .events;

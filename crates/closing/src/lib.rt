@@ -9,6 +9,7 @@ ghost use Rattle.method.specs.Method.{distance};
 ghost use Rattle.method.specs.Sizes.{FewIn};
 ghost use Rattle.closing.specs.Formula.{formulaOne, formulaTwo, formulaBy, levelBy};
 ghost use Rattle.closing.specs.Close.{largestDrift, closeOutcome, closed, closedReading, dayClosed};
+use clock::Rate;
 use ledger::ClassHighest;
 use ledger::Day;
 use method::MethodAnswer;
@@ -58,38 +59,38 @@ const METHOD_TWO_OFFSET: u32 = 4940;
 const LARGEST_DRIFT: u64 = 50;
 
 // Method one (6-2).
-fn formula_one() -> Formula
-    ensures { λ r. ⌜ r ≡ formulaOne ⌝ }
+fn formula_one(rate: Rate) -> Formula
+    ensures { λ r. ⌜ r ≡ formulaOne rate ⌝ }
 {
     Formula {
         daytime: 1,
         night: NIGHT_WEIGHT,
-        divisor: clock::DAY_TICKS,
+        divisor: clock::day_ticks(rate),
         offset: 0,
     }
 }
 
 // Method two (6-4).
-fn formula_two(totals: Totals) -> Formula
+fn formula_two(rate: Rate, totals: Totals) -> Formula
     requires { ⌜ FewIn totals ⌝ }
-    ensures { λ r. ⌜ r ≡ formulaTwo totals ⌝ }
+    ensures { λ r. ⌜ r ≡ formulaTwo rate totals ⌝ }
 {
     let weight = totals.daytime.flights + NIGHT_WEIGHT * totals.night.flights;
     Formula {
         daytime: weight,
         night: weight,
-        divisor: (clock::SAMPLES_A_SECOND as u32) * (totals.daytime.events + totals.night.events),
+        divisor: clock::samples_a_second(rate) * (totals.daytime.events + totals.night.events),
         offset: METHOD_TWO_OFFSET,
     }
 }
 
-fn formula_by(method: Method, totals: Totals) -> Formula
+fn formula_by(rate: Rate, method: Method, totals: Totals) -> Formula
     requires { ⌜ FewIn totals ⌝ }
-    ensures { λ r. ⌜ r ≡ formulaBy (methodNumber method) totals ⌝ }
+    ensures { λ r. ⌜ r ≡ formulaBy rate (methodNumber method) totals ⌝ }
 {
     match method {
-        Method::One => formula_one(),
-        Method::Two => formula_two(totals),
+        Method::One => formula_one(rate),
+        Method::Two => formula_two(rate, totals),
     }
 }
 
@@ -146,7 +147,9 @@ fn answer_of(day: Day, before: Level, after: Level) -> CloseAnswer
     match chosen {
         MethodAnswer::Refused(refusal) => CloseAnswer::Refused(refusal),
         MethodAnswer::By(method) => {
-            let level = level_by(formula_by(method, totals), day);
+            let settings = day.settings;
+            let rate = settings.rate;
+            let level = level_by(formula_by(rate, method, totals), day);
             let highest = day.highest;
             CloseAnswer::Closed(Closing {
                 answer: DayAnswer { level, method },

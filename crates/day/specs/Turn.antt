@@ -25,5 +25,5 @@ pub record Turned (before : List ℕ) (last : Turn) (held : List ℕ) (r : Turn)
   pub inside : (r .from + length (unused last before) ≤ r .end) × (r .end ≤ length held)
   -- it sees what is held; the file ends with it where the buffer is not full
   pub step : nextOf r ≡ stepOf (last .reader) (part held (r .from) (r .end)) (ltb (r .end) (length held))
-  pub enough : HeldEnough (r .end - r .from) (ltb (r .end) (length held))
+  pub enough : HeldEnough (last .reader) (r .end - r .from) (ltb (r .end) (length held))
   pub used : (r .from ≤ r .at) × (r .at ≤ r .end)

@@ -8,7 +8,8 @@ ghost use mathlib.Core.Path.{_≡_};
 ghost use Prim.Native.Nat.{_≤_};
 ghost use lib.ListN.{length};
 ghost use Rattle.power.specs.Table.{IsTable};
-ghost use Rattle.steps.specs.Machine.{isDone, longestNeed};
+ghost use Rattle.day_file.specs.Window.{longestRecord};
+ghost use Rattle.steps.specs.Machine.{isDone};
 ghost use Rattle.day.specs.Turn.{Turned};
 use libc::STDOUT_FILENO;
 use steps::Came;
@@ -24,14 +25,14 @@ struct Turn {
 }
 
 // Sees that enough is held, and makes a step on it.
-fn take_turn(table: &[u64; 1000], room: &mut [u16; 6000], held: &mut [u8], last: Turn) -> Turn
-    requires { ⌜ IsTable (now table) × (longestNeed ≤ length (now held)) ⌝ }
+fn take_turn(table: &[u64; 1000], room: &mut [u16; 24000], held: &mut [u8], last: Turn) -> Turn
+    requires { ⌜ IsTable (now table) × (longestRecord ≤ length (now held)) ⌝ }
     ensures { λ r. ⌜ Turned (now (held .entry)) last (now (held .exit)) r ⌝ }
 {
     let reader = last.reader;
     let at = last.at;
     let end = last.end;
-    let rest = stream::hold_enough(held, at, end, steps::longest_need());
+    let rest = stream::hold_enough(held, at, end, steps::longest_need(reader));
     let from = rest.at;
     let to = rest.end;
     let step = steps::step_with(table, reader, &held[from..to], rest.ended, room);
@@ -62,8 +63,8 @@ fn write_line(came: Came) {
 }
 
 // Takes turns until the last line is written. At first nothing is held, at the end of the buffer.
-fn run(table: &[u64; 1000], room: &mut [u16; 6000], held: &mut [u8])
-    requires { ⌜ IsTable (now table) × (longestNeed ≤ length (now held)) ⌝ }
+fn run(table: &[u64; 1000], room: &mut [u16; 24000], held: &mut [u8])
+    requires { ⌜ IsTable (now table) × (longestRecord ≤ length (now held)) ⌝ }
 {
     let size = held.len();
     let reader = steps::fresh();
@@ -85,7 +86,7 @@ fn run(table: &[u64; 1000], room: &mut [u16; 6000], held: &mut [u8])
 // The table of mantissas and the room for samples are made once.
 fn main() {
     let table = power::mantissas();
-    let mut room = [0u16; 6000];
+    let mut room = [0u16; 24000];
     let mut held = io::large_buffer();
     run(&table, &mut room, &mut held);
 }

@@ -8,6 +8,8 @@ use lib.ListN.{length, drop, getD, replicate, length-append}
 use lib.Seq.{drop-drop, take-at, drop-at, getD-drop}
 use Rattle.quantity.specs.declared.HighestLevel.{HighestLevel}
 use Rattle.quantity.specs.declared.HighestLevel.the-variants as highests
+use Rattle.clock.specs.declared.Rate.{Rate}
+use Rattle.clock.specs.declared.Rate.the-variants.{Ten, Twenty, Forty}
 use Rattle.ledger.specs.declared.Period.{Period}
 use Rattle.ledger.specs.declared.ClassHighest.{ClassHighest}
 use Rattle.ledger.specs.declared.Day.{Day}
@@ -16,12 +18,15 @@ use Rattle.day_words.specs.Words.{
   highestWords,
   restWords,
   classWords,
+  rateWord,
+  settingsWords,
   dayWords,
   wordsAt,
   narrowed,
   periodFrom,
   highestMarked,
   classesFrom,
+  rateFrom,
   dayFrom,
   Narrow,
   PeriodFits,
@@ -93,19 +98,29 @@ classes words at (c ∷ cs) rest s =
     let mark = ap (λ (n : ℕ). getD words n 0) (sym (add-zero at)) ∙ word 0 in
     ap₂ _∷_ (ap (λ (h : HighestLevel). record { level = h }) (rw (mark, word 1) (highest (c .level) others))) (classes words (at + 2) cs rest next)
 
+-- so is a rate
+rate : (r : Rate) → rateFrom (rateWord r) ≡ r
+rate Ten = refl
+rate Twenty = refl
+rate Forty = refl
+
 -- a day is read from where it stands, whatever is behind it
 day-read : (words : List ℕ) (d : Day) (rest : List ℕ) → DayFits d
-    → drop 0 words ≡ periodWords (d .daytime) ++ (periodWords (d .night) ++ (restWords d ++ (classWords (d .«highest_by_class») ++ rest))) → dayFrom words ≡ d
+    → drop 0 words ≡ periodWords (d .daytime) ++ (periodWords (d .night) ++ (restWords d ++ (classWords (d .«highest_by_class») ++ (settingsWords (d .settings) ++ rest)))) → dayFrom words ≡ d
 unfolding dayFrom
 day-read words d rest fits s =
-    let by-class = classWords (d .«highest_by_class») ++ rest in
+    let set = settingsWords (d .settings) ++ rest in
+    let by-class = classWords (d .«highest_by_class») ++ set in
     let others = restWords d ++ by-class in
     let by-night = periodWords (d .night) ++ others in
     let second : drop 36 words ≡ by-night = after words 0 (d .daytime) (fits .daytime) by-night s in
     let third : drop 72 words ≡ others = after words 36 (d .night) (fits .night) others second in
     let fourth : drop 76 words ≡ by-class = behind words 72 (restWords d) by-class third 76 (omega (arith, two-words (d .highest))) in
     let sixteen : classesFrom words 76 16 ≡ d .«highest_by_class» =
-    ap (classesFrom words 76) (sym (fits .byClass)) ∙ classes words 76 (d .«highest_by_class») rest fourth in
+    ap (classesFrom words 76) (sym (fits .byClass)) ∙ classes words 76 (d .«highest_by_class») set fourth in
+    let fifth : drop 108 words ≡ set =
+    behind words 76 (classWords (d .«highest_by_class»)) set fourth 108 (omega (arith, length-class-words (d .«highest_by_class»), fits .byClass)) in
+    let setting : (i : ℕ) → getD words (108 + i) 0 ≡ getD set i 0 = λ i. sym (getD-drop 108 words i 0) ∙ ap (λ (l : List ℕ). getD l i 0) fifth in
     let word : (i : ℕ) → getD words (72 + i) 0 ≡ getD others i 0 = λ i. sym (getD-drop 72 words i 0) ∙ ap (λ (l : List ℕ). getD l i 0) third in
     rw (
       period words 0 (d .daytime) (fits .daytime) by-night s,
@@ -117,8 +132,12 @@ day-read words d rest fits s =
       mod-eq-of-lt (fits .classes),
       highest (d .highest) by-class,
       sixteen,
+      setting 0,
+      setting 1,
+      setting 2,
+      rate (d .settings .rate),
     )
 
 pub inverse : InverseLaw
 unfolding dayWords
-inverse d fits = day-read (dayWords d) d (replicate 212 0) fits refl
+inverse d fits = day-read (dayWords d) d (replicate 209 0) fits refl

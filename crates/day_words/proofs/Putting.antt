@@ -13,13 +13,13 @@ use Rattle.runs.proofs.Putting.{then, same-length}
 use Rattle.ledger.specs.Day.{noneInClass}
 use Rattle.ledger.specs.declared.ClassHighest.{ClassHighest}
 use Rattle.ledger.specs.declared.Day.{Day}
-use Rattle.day_words.specs.Words.{wordCount, periodWords, highestWords, restWords, classWords, dayWords, wordsAt, countsAt, highestMarked, classesFrom}
+use Rattle.day_words.specs.Words.{wordCount, periodWords, highestWords, restWords, classWords, settingsWords, dayWords, wordsAt, countsAt, highestMarked, classesFrom}
 use Rattle.day_words.proofs.Inverse.{length-class-words}
 
 -- the words of a day: what is used is put at the beginning of words that are 0
 pub put-day : (day : Day) {after : List ℕ} {next : ℕ}
-    → Put (replicate wordCount 0) 0 (periodWords (day .daytime) ++ (periodWords (day .night) ++ (restWords day ++ classWords (day .«highest_by_class»)))) after next
-    → next ≡ 108 → after ≡ dayWords day
+    → Put (replicate wordCount 0) 0 (periodWords (day .daytime) ++ (periodWords (day .night) ++ (restWords day ++ (classWords (day .«highest_by_class») ++ settingsWords (day .settings))))) after next
+    → next ≡ 111 → after ≡ dayWords day
 unfolding dayWords
 put-day day {after} {next} p e =
     p .run ∙ rw e (simp append-assoc)

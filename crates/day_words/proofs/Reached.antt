@@ -12,8 +12,9 @@ use Rattle.quantity.specs.Rules.{firstOf, refused, given, outcome, follow}
 use Rattle.quantity.proofs.Refusing.{pass}
 use Rattle.quantity.proofs.Tests.{neither}
 use Rattle.limbs.proofs.Digits.{length-limbsOf}
-use Rattle.ledger.specs.Book.{sumOf, padded, mostClasses, mostFlights, isBookInvalid, bookRules}
-use Rattle.ledger.specs.Day.{Answered, freshPeriod, freshDay, noDay, periodOf, withPeriod}
+use Rattle.ledger.specs.Book.{sumOf, padded, mostClasses, mostFlights, isBookInvalid}
+use Rattle.clock.specs.declared.Settings.{Settings}
+use Rattle.ledger.specs.Day.{Answered, freshPeriod, freshDay, noDay, openRules, openedDay, periodOf, withPeriod}
 use Rattle.admission.specs.Checks.{dayChecks, inDaytime}
 use Rattle.offering.specs.Offer.{withEvent, admitted}
 use Rattle.ledger.specs.declared.Day.{Day}
@@ -59,8 +60,8 @@ fresh-period-fits flights narrow =
       accepted-narrow = narrow-padded mostClasses [] (λ i. omega arith);
     }
 
-fresh-fits : (daytime night : List ℕ) → length daytime ≤ mostClasses → Narrow daytime → Narrow night → DayFits (freshDay daytime night)
-fresh-fits daytime night h by-day by-night =
+fresh-fits : (c : Settings) (daytime night : List ℕ) → length daytime ≤ mostClasses → Narrow daytime → Narrow night → DayFits (freshDay c daytime night)
+fresh-fits c daytime night h by-day by-night =
     record { classes = omega (arith, h); daytime = fresh-period-fits daytime by-day; night = fresh-period-fits night by-night; byClass = refl }
 
 few-flights : (daytime night : List ℕ) → isBookInvalid daytime night ≡ false → sumOf daytime + sumOf night ≤ mostFlights
@@ -68,7 +69,7 @@ few-flights daytime night h =
     let others = neither (eqb (length daytime) 0 || ltb mostClasses (length daytime)) (_) h .1 in
     ltb-false _ _ (neither (not (eqb (length daytime) (length night))) (_) others .1)
 
--- what follows a book that is refused, and one that is not
+-- what follows an opening that is refused, and one that is not
 abbrev noneOpened : ℕ → Answered Unit
 noneOpened n = record { day = noDay; answer = refused n }
 
@@ -77,14 +78,20 @@ isOpened day = record { day = day; answer = given tt }
 
 -- the book of a day that opens has 16 classes and 2000 flights at the most
 pub opened-fits : OpenedLaw
-opened-fits daytime night = go (firstOf (bookRules daytime night)) refl
+opened-fits o = go (firstOf (openRules o)) refl
   where
-    go : (n : ℕ) → firstOf (bookRules daytime night) ≡ n → DayFits (follow (outcome n (freshDay daytime night)) noneOpened isOpened .day)
+    daytime : List ℕ
+    daytime = o .daytime
+
+    night : List ℕ
+    night = o .night
+
+    go : (n : ℕ) → firstOf (openRules o) ≡ n → DayFits (follow (outcome n (openedDay o)) noneOpened isOpened .day)
     go zero h =
-        let valid = pass (bookRules daytime night) (search needs) h .0 in
+        let valid = pass (openRules o) (search needs) h .1 .0 in
         let few = few-flights daytime night valid in
-        fresh-fits daytime night (book-fits daytime night valid .0) (λ i. omega (arith, below-sum daytime i)) (λ i. omega (arith, below-sum night i))
-    go (suc n) h = fresh-fits [] [] (omega arith) (λ i. omega arith) (λ i. omega arith)
+        fresh-fits _ daytime night (book-fits daytime night valid .0) (λ i. omega (arith, below-sum daytime i)) (λ i. omega (arith, below-sum night i))
+    go (suc n) h = fresh-fits _ [] [] (omega arith) (λ i. omega arith) (λ i. omega arith)
 
 with-event-fits : (p : Period) (class S : ℕ) → PeriodFits p → getD (p .accepted) class 0 < getD (p .booked) class 0 → PeriodFits (withEvent p class S)
 with-event-fits p class S f left =
@@ -111,7 +118,7 @@ offered-fits d o f = go (firstOf (dayChecks d o)) refl
     go : (n : ℕ) → firstOf (dayChecks d o) ≡ n → DayFits (follow (outcome n (admitted d o)) (λ k. record { day = d; answer = refused k }) (λ next. next) .day)
     go zero h =
         let r = o .recording in
-        let by-day = inDaytime r (eventOf (o .samples)) in
+        let by-day = inDaytime (d .settings) r (eventOf (o .samples)) in
         let left = leb-false _ _ (pass (dayChecks d o) (search needs) h .1 .1 .1 .1 .1 .1 .1 .1 .0) in
         let with-event = with-event-fits (periodOf d by-day) (r .class) (energyOf (o .samples)) (period-fits d by-day f) left in
         let next = with-period-fits d by-day _ f with-event in

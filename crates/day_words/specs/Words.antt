@@ -1,5 +1,5 @@
 -- A day as 320 words of 32 bits: for each period the flights of the book and the accepted events by class, and the limbs of its sum; then the number of
--- classes, the end, whether there is a highest level, and that level; for each class the same of its own highest level; then words that are 0.
+-- classes, the end, whether there is a highest level, and that level; for each class the same of its own highest level; the settings; then words that are 0.
 use mathlib.Core.Bool.{cond}
 use mathlib.Core.List.{List, [], _∷_, _++_, map}
 use Prim.Native.Nat.{ℕ, zero, suc, _+_, _%_, _<_}
@@ -8,7 +8,11 @@ use lib.Dec.{eqb}
 use lib.ListN.{length, take, drop, getD, replicate}
 use Rattle.quantity.specs.declared.HighestLevel.{HighestLevel}
 use Rattle.quantity.specs.declared.HighestLevel.the-variants as highests
-use Rattle.ledger.specs.Day.{timeAt, opened}
+use Rattle.clock.specs.Clock.{tickAt}
+use Rattle.clock.specs.declared.Rate.{Rate}
+use Rattle.clock.specs.declared.Rate.the-variants.{Ten, Twenty, Forty}
+use Rattle.clock.specs.declared.Settings.{Settings}
+use Rattle.ledger.specs.Day.{Opening, opened}
 use Rattle.admission.specs.Checks.{Offering}
 use Rattle.offering.specs.Offer.{offered}
 use Rattle.ledger.specs.declared.Period.{Period}
@@ -36,11 +40,21 @@ abbrev pub classWords : List ClassHighest → List ℕ
 classWords [] = []
 classWords (c ∷ cs) = highestWords (c .level) ++ classWords cs
 
--- the words of a day: 108 that are used, and 212 that are 0
+-- W-202: the settings: 3 words, of which the first tells the rate
+abbrev pub rateWord : Rate → ℕ
+rateWord Ten = 0
+rateWord Twenty = 1
+rateWord Forty = 2
+
+abbrev pub settingsWords : Settings → List ℕ
+settingsWords c = rateWord (c .rate) ∷ c .first .0 ∷ c .last .0 ∷ []
+
+-- the words of a day: 111 that are used, and 209 that are 0
 unfoldable pub dayWords : Day → List ℕ
 dayWords d =
     periodWords (d .daytime)
-    ++ (periodWords (d .night) ++ (restWords d ++ (classWords (d .«highest_by_class») ++ replicate 212 0)))
+    ++ (periodWords (d .night)
+    ++ (restWords d ++ (classWords (d .«highest_by_class») ++ (settingsWords (d .settings) ++ replicate 209 0))))
 
 -- words from a place on; counts from a place on, each word modulo 2^16
 abbrev pub wordsAt : (words : List ℕ) (at count : ℕ) → List ℕ
@@ -65,13 +79,22 @@ classesFrom words at zero = []
 classesFrom words at (suc k) =
     record { level = highestMarked (getD words at 0) (getD words (at + 1) 0) } ∷ classesFrom words (at + 2) k
 
+-- a word that names no rate stands for the fastest
+abbrev pub rateFrom : ℕ → Rate
+rateFrom n = cond (eqb n 0) Ten (cond (eqb n 1) Twenty Forty)
+
+abbrev pub settingsFrom : List ℕ → ℕ → Settings
+settingsFrom words at =
+    record { rate = rateFrom (getD words at 0); first = tickAt (getD words (at + 1) 0); last = tickAt (getD words (at + 2) 0) }
+
 unfoldable pub dayFrom : List ℕ → Day
 dayFrom words =
     record {
+      settings = settingsFrom words 108;
       classes = getD words 72 0 % 256;
       daytime = periodFrom words 0;
       night = periodFrom words 36;
-      end = timeAt (getD words 73 0);
+      end = tickAt (getD words 73 0);
       highest = highestMarked (getD words 74 0) (getD words 75 0);
       «highest_by_class» = classesFrom words 76 16;
     }
@@ -99,7 +122,7 @@ InverseLaw = (d : Day) → DayFits d → dayFrom (dayWords d) ≡ d
 
 -- the fresh day, the day of no class, and the day after an offer all fit, so the inverse law holds of every day that calls reach
 abbrev pub OpenedLaw : Type 0
-OpenedLaw = (daytime night : List ℕ) → DayFits (opened daytime night .day)
+OpenedLaw = (o : Opening) → DayFits (opened o .day)
 
 abbrev pub OfferedLaw : Type 0
 OfferedLaw = (d : Day) (o : Offering) → DayFits d → DayFits (offered d o .day)

@@ -10,20 +10,26 @@ ghost use Rattle.day_words.specs.Words.{
   highestWords,
   restWords,
   classWords,
+  rateWord,
+  settingsWords,
   dayWords,
   wordsAt,
   countsAt,
   periodFrom,
   highestMarked,
   classesFrom,
+  rateFrom,
+  settingsFrom,
   dayFrom,
 };
+use clock::Rate;
+use clock::Settings;
 use ledger::ClassHighest;
 use ledger::Day;
 use ledger::Period;
 use quantity::HighestLevel;
 use quantity::Level;
-use quantity::Time;
+use quantity::Tick;
 
 // The words of a day. Those behind the last that is used are 0; fields to come take their places there.
 pub const DAY_WORDS: usize = 320;
@@ -46,6 +52,8 @@ const HIGHEST_MARK: usize = 74;
 const HIGHEST: usize = 75;
 
 const HIGHEST_BY_CLASS: usize = 76;
+
+const SETTINGS: usize = 108;
 
 // Puts a period, 36 words.
 fn put_period(words: &mut [u32; 320], at: usize, period: Period) -> usize
@@ -98,6 +106,24 @@ fn put_classes(words: &mut [u32], at: usize, levels: [ClassHighest; 16]) -> usiz
     place
 }
 
+fn rate_word(rate: Rate) -> u32
+    ensures { λ r. ⌜ r ≡ rateWord rate ⌝ }
+{
+    match rate {
+        Rate::Ten => 0,
+        Rate::Twenty => 1,
+        Rate::Forty => 2,
+    }
+}
+
+// The settings: the rate, and the first and the last daytime tick.
+fn settings_words(settings: Settings) -> [u32; 3]
+    ensures { λ r. ⌜ r ≡ settingsWords settings ⌝ }
+{
+    let rate = settings.rate;
+    [rate_word(rate), settings.first.0, settings.last.0]
+}
+
 // Writes the words of a day.
 pub fn encode(day: Day, words: &mut [u32; 320])
     ensures { λ _. ⌜ now (words .exit) ≡ dayWords day ⌝ }
@@ -106,11 +132,14 @@ pub fn encode(day: Day, words: &mut [u32; 320])
     let night = day.night;
     let rest = rest_of(day);
     let levels = day.highest_by_class;
+    let kept = day.settings;
+    let settings = settings_words(kept);
     *words = [0u32; 320];
     let first = put_period(words, DAYTIME, daytime);
     let second = put_period(words, first, night);
     let third = runs::put_words(words, second, &rest);
-    put_classes(words, third, levels);
+    let fourth = put_classes(words, third, levels);
+    runs::put_words(words, fourth, &settings);
 }
 
 fn narrow(word: u32) -> u16
@@ -179,15 +208,41 @@ fn classes_at(words: &[u32], at: usize) -> [ClassHighest; 16]
     levels
 }
 
+// The rate that a word stands for: a word above 1 stands for the fastest.
+fn rate_from(word: u32) -> Rate
+    ensures { λ r. ⌜ r ≡ rateFrom word ⌝ }
+{
+    if word == 0 {
+        return Rate::Ten;
+    }
+    if word == 1 {
+        return Rate::Twenty;
+    }
+    Rate::Forty
+}
+
+// The settings at a place.
+fn settings_at(words: &[u32], at: usize) -> Settings
+    requires { ⌜ at + 3 ≤ length (now words) ⌝ }
+    ensures { λ r. ⌜ r ≡ settingsFrom (now (words .entry)) at ⌝ }
+{
+    Settings {
+        rate: rate_from(words[at]),
+        first: Tick(words[at + 1]),
+        last: Tick(words[at + 2]),
+    }
+}
+
 // The day that some words stand for.
 pub fn decode(words: &[u32; 320]) -> Day
     ensures { λ r. ⌜ r ≡ dayFrom (now (words .entry)) ⌝ }
 {
     Day {
+        settings: settings_at(words, SETTINGS),
         classes: (words[CLASSES] % 256) as u8,
         daytime: period_at(words, DAYTIME),
         night: period_at(words, NIGHT),
-        end: Time(words[END]),
+        end: Tick(words[END]),
         highest: highest_from(words[HIGHEST_MARK], words[HIGHEST]),
         highest_by_class: classes_at(words, HIGHEST_BY_CLASS),
     }

@@ -18,7 +18,8 @@ use Rattle.limbs.specs.Value.{value, limbsOf}
 use Rattle.limbs.proofs.Digits.{added-modulo}
 use Rattle.decades.specs.Decades.{energies}
 use Rattle.event.specs.Window.{highest, anyAbove}
-use Rattle.clock.specs.Clock.{dayTicks, longestWindow}
+use Rattle.clock.specs.Clock.{dayTicks, longestOfAll}
+use Rattle.clock.proofs.Rates.{rate-most}
 use Rattle.event.specs.Event.{eventOf}
 use Rattle.event.specs.declared.Event.{Event}
 use Rattle.exposure.specs.Exposing.{Inside, Exposed}
@@ -39,10 +40,10 @@ module _ (day : Day) (r : Recording) (s : List ℕ) (h : firstOf (dayChecks day 
   rules : Pass (dayChecks day (record { recording = r; samples = s }))
   rules = pass (dayChecks day (record { recording = r; samples = s })) (search needs) h
 
-  short : length s ≤ longestWindow
-  short = short-enough (length s) (rules .0)
+  short : length s ≤ longestOfAll
+  short = short-enough (day .settings .rate) (length s) (rules .0)
 
-  past : r .start .0 + length s ≤ dayTicks
+  past : r .start .0 + length s ≤ dayTicks (day .settings .rate)
   past = ltb-false _ _ (rules .1 .0)
 
   pub admissible : Admissible day r (eventOf s)
@@ -51,7 +52,7 @@ module _ (day : Day) (r : Recording) (s : List ℕ) (h : firstOf (dayChecks day 
       record {
         class = leb-false _ _ (neither (leb (day .classes) (r .class)) (leb mostClasses (r .class)) (rules .1 .1 .0) .1);
         peak = omega (arith, w, short);
-        end = omega (arith, w, past);
+        end = omega (arith, w, past, rate-most (day .settings .rate));
         left = leb-false _ _ (rules .1 .1 .1 .1 .1 .1 .1 .1 .0);
       }
 
@@ -73,10 +74,10 @@ is-admitted day o h = rw (given-alike (firstOf (dayChecks day o)) (eventOf (o .s
 -- a sum does not see what an energy is modulo 2 ^ 128
 kept-modulo : (day : Day) (o : Offering) (S : ℕ) → let v = eventOf (o .samples) in
     entered day (o .recording) v (value (limbsOf 4 S)) ≡ entered day (o .recording) v S
-kept-modulo day o S = rw (added-modulo 4 4 4 refl refl (energyIn (periodOf day (inDaytime (o .recording) (eventOf (o .samples))))) S refl)
+kept-modulo day o S = rw (added-modulo 4 4 4 refl refl (energyIn (periodOf day (inDaytime (day .settings) (o .recording) (eventOf (o .samples))))) S refl)
 
 -- the answer to it
 pub answered : (day : Day) (o : Offering) (energy : List ℕ) (l : Reading) → let v = eventOf (o .samples) in
-    Exposed (slice (v .stretch .first) (v .stretch .end) (o .samples)) energy l
+    Exposed (day .settings .rate) (slice (v .stretch .first) (v .stretch .end) (o .samples)) energy l
     → record { day = entered day (o .recording) v (value energy); answer = given (record { exposure = l; lmax = highest (o .samples) }) } ≡ admitted day o
 answered day o energy l x = rw (x .sum, kept-modulo day o (energies (slice (eventOf (o .samples) .stretch .first) (eventOf (o .samples) .stretch .end) (o .samples))), x .exposure)

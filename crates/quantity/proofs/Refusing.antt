@@ -84,3 +84,4 @@ refusal-positive refusals.RecordLevelTooHigh = lit< tt
 refusal-positive refusals.LandUnknown = lit< tt
 refusal-positive refusals.FileFault = lit< tt
 refusal-positive refusals.FileTooLong = lit< tt
+refusal-positive refusals.SettingsInvalid = lit< tt

@@ -5,7 +5,7 @@ use script_text::words;
 use script_text::words::Words;
 
 // A call has at most this many numbers, and at most this many records.
-const MOST_NUMBERS: usize = 6016;
+const MOST_NUMBERS: usize = 24016;
 
 const MOST_RECORDS: usize = 400;
 
@@ -25,16 +25,55 @@ fn with_value(text: Text, answer: u8, level: u32) -> Text {
     text
 }
 
-// book DAY FLIGHTS / NIGHT FLIGHTS: opened in words that are 0, so that a refused opening leaves a day of no class
-fn open(day: &mut [u32; 320], numbers: &[u32], words: Words) -> Text {
+// The settings that document 01 has.
+const RATE: u32 = 10;
+
+const FIRST_DAYTIME_TICK: u32 = 216000;
+
+const LAST_DAYTIME_TICK: u32 = 791999;
+
+// Opens a day in words that are 0, so that a refused opening leaves a day of no class. The flights by day are the numbers from a place on.
+fn open(
+    day: &mut [u32; 320],
+    rate: u32,
+    first: u32,
+    last: u32,
+    numbers: &[u32],
+    from: usize,
+    words: Words,
+) -> Text {
     let mut flights = [0u16; MOST_NUMBERS];
     words::copy_numbers(numbers, &mut flights);
     *day = [0u32; 320];
     answered(c_interface::moatburdock_open_day(
         day,
-        words::numbers_part(&flights, 0, words.slash),
+        rate,
+        first,
+        last,
+        words::numbers_part(&flights, from, words.slash),
         words::numbers_part(&flights, words.slash, words.count),
     ))
+}
+
+// book DAY FLIGHTS / NIGHT FLIGHTS: with the settings of document 01
+fn open_before(day: &mut [u32; 320], numbers: &[u32], words: Words) -> Text {
+    open(
+        day,
+        RATE,
+        FIRST_DAYTIME_TICK,
+        LAST_DAYTIME_TICK,
+        numbers,
+        0,
+        words,
+    )
+}
+
+// terminal RATE FIRST LAST DAY FLIGHTS / NIGHT FLIGHTS
+fn open_terminal(day: &mut [u32; 320], numbers: &[u32], words: Words) -> Text {
+    let rate = words::number_at(numbers, 0);
+    let first = words::number_at(numbers, 1);
+    let last = words::number_at(numbers, 2);
+    open(day, rate, first, last, numbers, 3, words)
 }
 
 // offer START CLASS WIND WET BACKGROUND / SAMPLES
@@ -203,7 +242,8 @@ pub fn make(day: &mut [u32; 320], call: &[u8]) -> Text {
     let words = words::read_words(call, &mut numbers);
     let letter = words::byte_at(call, 0);
     match letter {
-        b'b' => open(day, &numbers, words),
+        b'b' => open_before(day, &numbers, words),
+        b't' => open_terminal(day, &numbers, words),
         b'o' => offer(day, &numbers, words),
         b'c' => close(day, &numbers),
         b'h' => highest_by_class(day, &numbers),

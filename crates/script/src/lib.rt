@@ -4,7 +4,7 @@
 //     LABEL: CALL WORDS = ANSWER          a call; answers that are right are separated by '|', and one that is plausible and wrong stands behind ', not'
 //     TEXT                                a line without ':' is a heading
 //
-// The calls are told by their first letter: book, offer, close, highest, week, year, rewrite, verdict, land.
+// In a call 8000*3 stands for 8000 8000 8000. The calls are told by their first letter: book, terminal, offer, close, highest, week, year, rewrite, verdict, land.
 ghost use mathlib.Core.Path.{_≡_};
 ghost use Prim.Native.Nat.{_≤_};
 ghost use lib.ListN.{length};
@@ -15,7 +15,7 @@ use judging::Progress;
 use libc::STDOUT_FILENO;
 use script_text::words;
 
-// A line is shorter than this: 6016 numbers of five digits and their spaces are 36096 bytes.
+// A line is shorter than this: 6016 numbers of five digits and their spaces are 36096 bytes, and longer windows are written with '*'.
 const LONGEST_LINE: usize = 40960;
 
 // No script has more lines.

@@ -11,12 +11,15 @@ pub struct Words {
     pub slash: usize,
 }
 
-// How far a call is read: its numbers so far, and the number whose digits are read, if any.
+// How far a call is read: its numbers so far, the number whose digits are read, if any, and how often it stands there: in 8000*3 the digits behind '*'
+// are those of the number of times.
 struct Scan {
     count: usize,
     slash: usize,
     value: u32,
     inside: bool,
+    repeated: u32,
+    repeats: bool,
 }
 
 // The part of a run from a place up to another, or nothing where there is no such part.
@@ -89,6 +92,17 @@ fn put_number(numbers: &mut [u32], count: usize, value: u32) -> usize {
     count
 }
 
+// Puts a number so many times.
+fn put_times(numbers: &mut [u32], count: usize, value: u32, times: u32) -> usize {
+    let mut now = count;
+    let mut i = 0;
+    while i < times {
+        now = put_number(numbers, now, value);
+        i += 1;
+    }
+    now
+}
+
 fn is_digit(byte: u8) -> bool {
     if byte < b'0' {
         return false;
@@ -98,10 +112,25 @@ fn is_digit(byte: u8) -> bool {
 
 // The count after the end of a word.
 fn ended(scan: Scan, numbers: &mut [u32]) -> usize {
-    if scan.inside {
-        return put_number(numbers, scan.count, scan.value);
+    if !scan.inside {
+        return scan.count;
     }
-    scan.count
+    if scan.repeats {
+        return put_times(numbers, scan.count, scan.repeated, scan.value);
+    }
+    put_number(numbers, scan.count, scan.value)
+}
+
+// Between two words.
+fn between(count: usize, slash: usize) -> Scan {
+    Scan {
+        count,
+        slash,
+        value: 0,
+        inside: false,
+        repeated: 0,
+        repeats: false,
+    }
 }
 
 // One byte further.
@@ -112,41 +141,33 @@ fn scanned(scan: Scan, byte: u8, numbers: &mut [u32]) -> Scan {
             slash: scan.slash,
             value: with_digit(scan.value, byte),
             inside: true,
+            repeated: scan.repeated,
+            repeats: scan.repeats,
+        };
+    }
+    if byte == b'*' {
+        return Scan {
+            count: scan.count,
+            slash: scan.slash,
+            value: 0,
+            inside: true,
+            repeated: scan.value,
+            repeats: true,
         };
     }
     let count = ended(scan, numbers);
     if byte == b'-' {
-        return Scan {
-            count: put_number(numbers, count, NONE),
-            slash: scan.slash,
-            value: 0,
-            inside: false,
-        };
+        return between(put_number(numbers, count, NONE), scan.slash);
     }
     if byte == b'/' {
-        return Scan {
-            count,
-            slash: count,
-            value: 0,
-            inside: false,
-        };
+        return between(count, count);
     }
-    Scan {
-        count,
-        slash: scan.slash,
-        value: 0,
-        inside: false,
-    }
+    between(count, scan.slash)
 }
 
-// Reads the numbers of a call, '-' as NONE.
+// Reads the numbers of a call, '-' as NONE, and 8000*3 as 8000 8000 8000.
 pub fn read_words(call: &[u8], numbers: &mut [u32]) -> Words {
-    let mut scan = Scan {
-        count: 0,
-        slash: 0,
-        value: 0,
-        inside: false,
-    };
+    let mut scan = between(0, 0);
     let mut i = 0;
     while i < call.len() {
         let next = scanned(scan, byte_at(call, i), numbers);

@@ -10,7 +10,9 @@ use Rattle.quantity.specs.Answers.{Reading, level, below-scale}
 use Rattle.quantity.specs.Rules.{Outcome, given}
 use Rattle.power.specs.Power.{m}
 use Rattle.exposure.specs.Exposure.{exposureOf}
+use Rattle.clock.specs.declared.Rate.the-variants.{Ten}
 use Rattle.ledger.specs.Day.{opened}
+use Rattle.ledger.specs.Before.{openingBefore}
 use Rattle.admission.specs.Checks.{Offering}
 use Rattle.offering.specs.Offer.{offered}
 use Rattle.ledger.specs.declared.Day.{Day}
@@ -52,11 +54,11 @@ abbrev pub dayAfterOffers : Day → List Offering → Day
 dayAfterOffers day [] = day
 dayAfterOffers day (o ∷ os) = dayAfterOffers (offered day o .day) os
 
--- the definitions' answer; a day is closed with the calibration of the example, 9400 before and after
+-- the definitions' answer, for a terminal with the settings of document 01; a day is closed with the calibration of the example, 9400 before and after
 abbrev pub answer : (q : Question) → Answer q
 answer (mantissa f) = m f
-answer (exposure samples) = exposureOf samples
-answer (closing book offers) = closed (dayAfterOffers (opened (book .daytime) (book .night) .day) offers) 9400 9400
+answer (exposure samples) = exposureOf Ten samples
+answer (closing book offers) = closed (dayAfterOffers (opened (openingBefore (book .daytime) (book .night)) .day) offers) 9400 9400
 answer (week days) = weekMeanOf days
 answer (verdict class yearly sensitive highest) = verdictOf class yearly sensitive highest
 

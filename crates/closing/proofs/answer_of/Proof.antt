@@ -23,9 +23,9 @@ returns c = let a = c .before .before .args in drifted (a .day) (a .before .0) (
 
 level-by-requires : tie.Need-level-by-requires
 level-by-requires c κs =
-    let k = c .before .before .before .before .before in
+    let k = c .before .before .before .before .before .before in
     let day = k .before .before .before .args .day in
-    rw (c .formula-by .ensures, k .choose-method .ensures .0 .0) (divides (countsOf day) (method (c .before .before)))
+    rw (c .formula-by .ensures, k .choose-method .ensures .0 .0) (divides (day .settings .rate) (countsOf day) (method (c .before .before .before)))
 
 returns-2 : tie.Need-returns-2
 returns-2 c =
@@ -35,11 +35,11 @@ returns-2 c =
 
 returns-3 : tie.Need-returns-3
 returns-3 c =
-    let k = c .before .before .before .before .before .before in
+    let k = c .before .before .before .before .before .before .before in
     let a = k .before .before .before .args in
     let totals = k .choose-method .ensures .0 .0 in
     rw totals
-    (by-method (a .day) (a .before .0) (a .after .0) (steady k) (method (c .before .before .before)) (c .level-by .ensures ∙ rw (c .before .formula-by .ensures, totals)))
+    (by-method (a .day) (a .before .0) (a .after .0) (steady k) (method (c .before .before .before .before)) (c .level-by .ensures ∙ rw (c .before .formula-by .ensures, totals)))
 
 pub answer-of-spec : {M : Type 1} → statement M
 answer-of-spec =

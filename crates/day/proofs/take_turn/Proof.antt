@@ -2,13 +2,15 @@
 use mathlib.Core.Path.{_≡_, ap, _∙_}
 use mathlib.Core.List.{List}
 use Prim.Native.Nat.{ℕ, _+_, _-_, _≤_}
+use native.Mathlib.Nat.{le-trans}
 use native.Mathlib.Omega.{arith}
+use Rattle.clock.proofs.Rates.{window-most}
 use lib.ListN.{length, length-drop}
 use lib.Seq.{length-take-le}
 use borrow.Author.Needs.{needs}
 use Rattle.stream.specs.Part.{part}
 use Rattle.steps.specs.Machine.{Next}
-use Rattle.steps.proofs.Ending.{used-law}
+use Rattle.steps.proofs.Ending.{longest-law, used-law}
 use Rattle.day.proofs.take_turn.Statement.{statement}
 use Rattle.day.proofs.take_turn.Tie as tie
 
@@ -32,6 +34,11 @@ within c =
       used-law (k .before .before .before .before .before .args .last .reader) (window c) (r .result .ended),
     )
 
+step-with-requires : tie.Need-step-with-requires
+step-with-requires c κs =
+    let start = c .before .before .before .before .before .before .before .before .before .before in
+    (start .pre .0, le-trans (window-most (start .args .last .reader .day .settings .rate)) (search needs))
+
 add-t16 : tie.Need-add-t16
 add-t16 c =
     let k = c .before .before in
@@ -43,6 +50,7 @@ returns c =
     let h = k .before .before .before .before .before .before in
     let r = h .hold-enough in
     let e = r .ensures in
+    let start = h .before .before .before .before .before in
     let used : r .result .at + k .step-with .result .used - r .result .at ≡ k .step-with .result .used = omega arith in
     let ended = e .1 .1 .1 .0 in
     record {
@@ -50,7 +58,8 @@ returns c =
       kept = e .0;
       inside = e .1 .0;
       step = rw (used, ← ended) (k .step-with .ensures .0);
-      enough = λ f. omega (arith, e .1 .1 .1 .1 (ended ∙ f), e .1 .1 .0, h .before .longest-need .ensures, h .before .before .before .before .before .pre .1);
+      enough = λ f.
+          omega (arith, e .1 .1 .1 .1 (ended ∙ f), e .1 .1 .0, h .before .longest-need .ensures, longest-law (start .args .last .reader), start .pre .1);
       used = (omega arith, within k);
     }
 
@@ -63,7 +72,7 @@ take-turn-spec =
     (λ c. search needs)
     (λ c. search needs)
     (λ c. search needs)
-    (λ c κs. search needs)
+    step-with-requires
     add-t16
     (λ c. search needs)
     returns)

@@ -8,12 +8,14 @@ returns : tie.Need-returns
 unfolding dayFrom
 returns c =
     let night = c .before .before .before .before .before .before in
-    rw (night .before .before .period-at .ensures, night .period-at2 .ensures, c .before .before .highest-from .ensures, c .classes-at .ensures)
+    let daytime = night .before .before in
+    rw (daytime .before .before .before .settings-at .ensures, daytime .period-at .ensures, night .period-at2 .ensures, c .before .before .highest-from .ensures, c .classes-at .ensures)
 
 pub decode-spec : {M : Type 1} → statement M
 decode-spec =
     tie.close
     (tie.spec
+    (λ c κs. search needs)
     (λ c. search needs)
     (λ c. search needs)
     (λ c κs. search needs)

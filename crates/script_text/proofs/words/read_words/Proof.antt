@@ -45,6 +45,7 @@ read-words-spec =
     (tie.spec
     Inv-loop
     μ-loop
+    (λ c κs. search needs)
     loop-holds
     byte-at-requires
     scanned-requires

@@ -1,0 +1,2 @@
+-- The laws of the rates.
+pub mod Rates
