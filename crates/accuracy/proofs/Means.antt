@@ -1,6 +1,6 @@
 -- Demand 3 for means: what the level of the days' levels says of the exact sum of all their samples.
 use mathlib.Core.Path.{_≡_, refl, sym, ap, _∙_}
-use mathlib.Core.Bool.{Bool, true, false, cond}
+use mathlib.Core.Bool.{Bool, true, false}
 use mathlib.Core.Logic.{_⊎_, inl, ⊎-elim}
 use mathlib.Core.List.{List, [], _∷_}
 use Prim.Native.Nat.{ℕ, suc, _+_, _*_, _^_, _≤_, _<_, zero-le}
@@ -24,7 +24,7 @@ use Rattle.level.proofs.Bounds.{exact-low, reaches}
 use Rattle.clock.specs.Clock.{dayTicks}
 use Rattle.clock.specs.declared.Rate.{Rate}
 use Rattle.clock.specs.declared.Rate.the-variants.{Ten, Twenty, Forty}
-use Rattle.clock.proofs.Rates.{rate-positive}
+use Rattle.clock.proofs.Rates.{ticks-positive}
 use Rattle.ledger.specs.Day.{openedDay}
 use Rattle.ledger.specs.declared.Day.{Day}
 use Rattle.closing.specs.Formula.{formulaOne}
@@ -63,9 +63,6 @@ day-level d m =
     let c = given-value n same .1 in
     rw (ap (λ (x : Closing). x .method) c ∙ m .byMethodOne, settings-in-tally (started (d .opening)) (d .calls)) at
     (ap (λ (x : Closing). x .ldn) c ∙ m .onScale)
-
-ticks-positive : (rate : Rate) → 0 < dayTicks rate
-ticks-positive rate = omega (arith, rate-positive rate)
 
 module _ (d : ClosedDay) (m : Measured d) where
   bounds : Answers 0 (dayTicks (rateIn d)) (dayEnergy d) (level (m .ldn))

@@ -13,7 +13,7 @@ use Rattle.limbs.specs.Value.{base}
 use Rattle.level.specs.Accuracy.{Sample, weighted, weigh}
 use Rattle.clock.specs.Clock.{dayTicks}
 use Rattle.clock.specs.declared.Rate.{Rate}
-use Rattle.clock.proofs.Rates.{rate-most}
+use Rattle.clock.proofs.Rates.{ticks-most}
 use Rattle.decades.specs.Decades.{energies}
 use Rattle.exposure.proofs.Accuracy.{weighted-energies}
 use Rattle.accuracy.specs.Tally.{Held, sameAs, heldSamples}
@@ -54,5 +54,4 @@ period-part false hs = omega arith
 pub day-fits : (rate : Rate) (S end : ℕ) → S ≤ e highestSample * end → end ≤ dayTicks rate → S < base ^ 4
 day-fits rate S end h l =
     let top : e highestSample ≡ G * 10 ^ 14 = rw m-zero at (e-at 14 0 zero-le) in
-    let longest : end ≤ 3456000 = omega (arith, rate-most rate) in
-    lt-of-le-of-lt (le-trans h (mul-le-mul-left (e highestSample) longest)) (rw top (lit< tt))
+    lt-of-le-of-lt (le-trans h (mul-le-mul-left (e highestSample) (le-trans l (ticks-most rate)))) (rw top (lit< tt))

@@ -4,7 +4,6 @@ use mathlib.Core.Bool.{true, false, not, _||_}
 use mathlib.Core.List.{[], _∷_}
 use Prim.Native.Nat.{ℕ, _<_}
 use native.Mathlib.Nat.{mul-pos}
-use native.Mathlib.Omega.{arith}
 use borrow.Author.Needs.{needs}
 use borrow.Author.Tests.{not-false, leb-true}
 use lib.Dec.{leb, ltb, eqb}
@@ -14,7 +13,7 @@ use Rattle.quantity.proofs.Outcomes.{given-value, refused-alike, given-alike}
 use Rattle.quantity.proofs.Refusing.{skip, stop, pass}
 use Rattle.quantity.proofs.Tests.{test, both}
 use Rattle.clock.specs.declared.Rate.{Rate}
-use Rattle.clock.proofs.Rates.{rate-positive}
+use Rattle.clock.proofs.Rates.{rate-positive, ticks-positive}
 use Rattle.ledger.specs.Book.{mostClasses}
 use Rattle.ledger.specs.Day.{energyIn}
 use Rattle.ledger.specs.declared.Day.{Day}
@@ -28,7 +27,7 @@ divisor-positive rate c h =
     let held = both (not (eqb (c .classes) 0)) (methodOneHolds (c .totals) || methodTwoHolds (c .totals) (c .class)) h .1 in
     let all = allOf (c .totals) in
     test (methodOneHolds (c .totals))
-    (λ t. rw t (omega (arith, rate-positive rate)))
+    (λ t. rw t (ticks-positive rate))
     (λ f. rw f
     (mul-pos (rate-positive rate) (leb-true 1 (all .events) (both (leb 1 (all .events)) (sharesHold all (c .class) mostClasses) (rw f at held) .0))))
 
