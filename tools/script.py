@@ -9,6 +9,7 @@ import re
 from collections import namedtuple
 
 import noise
+import pairings
 
 # The label of a call whose stated answer is wrong, so that the program is seen to notice it, begins so.
 WRONG_ON_PURPOSE = 'wrong on purpose'
@@ -77,6 +78,10 @@ class Replay:
 
     def land(self, call):
         return [noise.land_answer(*call.numbers)]
+
+    def pair(self, call):
+        tolerance, movement_marks, peak_marks = call.numbers[:3]
+        return pairings.answers(call.numbers[3:call.slash], call.numbers[call.slash:], tolerance, movement_marks, peak_marks)
 
     def answers(self, call):
         """the answers that are right for the next call, the exact one first"""

@@ -11,6 +11,7 @@ use lib.Dec.{ltb, lit<}
 use lib.ListN.{length}
 use Rattle.quantity.specs.Answers.{Reading, level, below-scale}
 use Rattle.quantity.specs.Limits.{highestSample, highestDayLevel}
+use Rattle.quantity.specs.Lists.{Each}
 use Rattle.quantity.specs.Rules.{firstOf, Outcome, refused, given, outcome}
 use Rattle.quantity.proofs.Outcomes.{given-value}
 use Rattle.quantity.proofs.Refusing.{skip, stop, end}
@@ -33,7 +34,7 @@ use Rattle.mean.specs.Mean.{isTooHigh, isCountWrong, anyTooHigh, powerOf, sumOf
 use Rattle.mean.specs.Records.{readings, DayReading}
 use Rattle.accuracy.specs.Tally.{Tally, Held, started, tallyOf, tallyCounts, heldSamples}
 use Rattle.accuracy.specs.Terminal.{dayAfterCalls}
-use Rattle.accuracy.specs.Means.{ClosedDay, Measured, Quiet, Each, rateIn, rateWeight, meanWeight, meanTicks, heldIn, recordsOf, daySamples, samplesOf, MeanAccurate, MeanDemanded, MeanClaim, QuietLaw, Demand3}
+use Rattle.accuracy.specs.Means.{ClosedDay, Measured, Quiet, rateIn, rateWeight, meanWeight, meanTicks, heldIn, recordsOf, daySamples, samplesOf, MeanAccurate, MeanDemanded, MeanClaim, QuietLaw, Demand3}
 use Rattle.accuracy.proofs.Sums.{weighted-held, weighted-append, heldEnergy}
 use Rattle.accuracy.proofs.Agreement.{Agrees}
 use Rattle.accuracy.proofs.Closings.{tallyAnswer, closed-same}

@@ -7,6 +7,7 @@ use mathlib.Core.List.{List, [], _∷_, _++_}
 use Prim.Native.Nat.{ℕ, _*_, _/_}
 use lib.ListN.{length}
 use Rattle.quantity.specs.Answers.{Reading, level, below-scale}
+use Rattle.quantity.specs.Lists.{Each}
 use Rattle.quantity.specs.Rules.{firstOf, Outcome, refused, given}
 use Rattle.quantity.specs.declared.DayAnswer.{DayAnswer}
 use Rattle.level.specs.Accuracy.{Sample, Accurate}
@@ -72,10 +73,6 @@ pub record Measured (d : ClosedDay) : Type 0 where
 pub record Quiet (d : ClosedDay) : Type 0 where
   pub none : heldIn d ≡ []
   pub belowScale : d .closing .ldn ≡ below-scale
-
-abbrev pub Each : (ClosedDay → Type 0) → List ClosedDay → Type 0
-Each P [] = Unit
-Each P (d ∷ ds) = P d × Each P ds
 
 -- M is 3456000 * D, G + 1 becomes G + 3 and r + 1 becomes r + 2
 abbrev pub meanTicks : ℕ

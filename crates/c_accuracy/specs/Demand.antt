@@ -5,6 +5,7 @@ use Prim.Native.Nat.{ℕ}
 use mathlib.Core.Option.{Option}
 use lib.ListN.{getD}
 use Rattle.quantity.specs.Answers.{Reading}
+use Rattle.quantity.specs.Lists.{Each}
 use Rattle.quantity.specs.Rules.{Outcome, outcome}
 use Rattle.ledger.specs.Day.{Opening, openedDay}
 use Rattle.offering.specs.Offer.{Accepted}
@@ -12,7 +13,7 @@ use Rattle.closing.specs.Close.{Closing}
 use Rattle.accuracy.specs.Tally.{Tally, started, tallyOf}
 use Rattle.accuracy.specs.Terminal.{dayAfterCalls}
 use Rattle.accuracy.specs.Demand.{OfferDemanded, CloseDemanded}
-use Rattle.accuracy.specs.Means.{ClosedDay, Measured, Each, MeanDemanded}
+use Rattle.accuracy.specs.Means.{ClosedDay, Measured, MeanDemanded}
 use Rattle.day_words.specs.Words.{dayFrom}
 use Rattle.c_interface.specs.Numbers.{levelFrom, highestFrom, classLevelsFrom, recordLevel, recordMethod}
 use Rattle.c_interface.specs.Calls.{Left, OfferLent, CloseLent, openLeaves, offerLeaves, closeLeaves, weekLeaves, yearLeaves}

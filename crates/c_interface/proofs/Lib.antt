@@ -2,3 +2,4 @@
 pub mod Records
 pub mod Classes
 pub mod Written
+pub mod Pairs

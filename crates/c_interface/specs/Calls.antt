@@ -1,5 +1,6 @@
 -- What each exported function answers and what is in what it was lent when it returns. A refused call leaves all of it as it was.
 use mathlib.Core.Bool.{Bool}
+use mathlib.Core.Path.{_≡_}
 use mathlib.Core.List.{List, [], _∷_}
 use Prim.Native.Nat.{ℕ}
 use lib.IntN.{ℤ}
@@ -12,6 +13,8 @@ use Rattle.offering.specs.Offer.{offered}
 use Rattle.closing.specs.Close.{Closed, dayClosed}
 use Rattle.mean.specs.Mean.{weekMeanOf, yearMeanOf, isTooHigh}
 use Rattle.mean.specs.Records.{placeRule}
+use Rattle.pairing.specs.Pairing.{Marks}
+use Rattle.pairing.specs.Answers.{Answered}
 use Rattle.land.specs.Classes.{classOf}
 use Rattle.land.specs.Verdict.{landClassOf, verdictOf}
 use Rattle.day_words.specs.Words.{dayWords, dayFrom}
@@ -98,6 +101,18 @@ abbrev pub verdictLeaves : VerdictLent → (class yearly : ℕ) → Bool → ℕ
 verdictLeaves lent class yearly sensitive lmax =
     leaves lent (verdictOf class (levelFrom yearly) sensitive (highestFrom lmax))
     (λ v. record { finding = findingNumber (v .finding); margin = marginNumber (v .margin) })
+
+-- pairing: the count of the pairs, and the marks
+pub record PairLent : Type 0 where
+  pub count : ℕ
+  pub marks : Marks
+
+-- what is left by an answer of the pairing: several are right where there are several largest pairings
+pub record PairLeaves (movements peaks : List ℕ) (tolerance : ℕ) (lent : PairLent) (left : Left PairLent) : Type 0 where
+  pub result : Outcome ℕ
+  pub marks : Marks
+  pub answered : Answered movements peaks tolerance (lent .marks) result marks
+  pub written : left ≡ leaves lent result (λ count. record { count = count; marks = marks })
 
 -- the class of a land code
 abbrev pub classLeaves : ℕ → (letter digit : ℕ) → Left ℕ

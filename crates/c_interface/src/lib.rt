@@ -29,6 +29,7 @@ ghost use Rattle.c_interface.specs.Calls.{
   readLeaves,
   rewriteLeaves,
   verdictLeaves,
+  PairLeaves,
   classLeaves,
 };
 use admission::Recording;
@@ -41,6 +42,7 @@ use ledger::ClassHighest;
 use mean::MeanAnswer;
 use mean::Total;
 use offering::OfferAnswer;
+use pairing::PairingAnswer;
 use quantity::Check;
 use quantity::HighestLevel;
 use quantity::Level;
@@ -388,6 +390,43 @@ pub extern "C" fn moatburdock_land_class(letter: u8, digit: u8, class: &mut u8) 
         LandClassAnswer::Refused(refusal) => quantity::refusal_number(refusal),
         LandClassAnswer::Known(known) => {
             *class = land::class_number(known);
+            0
+        }
+    }
+}
+
+// Pairs movements with peaks that are no further apart than the tolerance, each at most once and as many as can be; all times are in ticks. Gives the
+// count of the pairs, and for each entry its partner's place counted from 1, or 0.
+#[no_mangle]
+pub extern "C" fn moatburdock_pair_movements(
+    movements: &[u32],
+    peaks: &[u32],
+    tolerance: u32,
+    movement_marks: &mut [u16],
+    peak_marks: &mut [u16],
+    count: &mut u16,
+) -> u8
+    ensures { λ r.
+        ⌜
+        PairLeaves (now (movements .entry)) (now (peaks .entry)) tolerance
+        (record {
+          count = now (count .entry);
+          marks = record { movements = now («movement_marks» .entry); peaks = now («peak_marks» .entry) };
+        })
+        (record {
+          answer = r;
+          lent = record {
+            count = now (count .exit);
+            marks = record { movements = now («movement_marks» .exit); peaks = now («peak_marks» .exit) };
+          };
+        })
+        ⌝ }
+{
+    let answer = pairing::pair_movements(movements, peaks, tolerance, movement_marks, peak_marks);
+    match answer {
+        PairingAnswer::Refused(refusal) => quantity::refusal_number(refusal),
+        PairingAnswer::Paired(pairs) => {
+            *count = pairs;
             0
         }
     }

@@ -85,3 +85,4 @@ refusal-positive refusals.LandUnknown = lit< tt
 refusal-positive refusals.FileFault = lit< tt
 refusal-positive refusals.FileTooLong = lit< tt
 refusal-positive refusals.SettingsInvalid = lit< tt
+refusal-positive refusals.ListUnfit = lit< tt

@@ -32,7 +32,7 @@ abbrev pub methodNumber : Method → ℕ
 methodNumber One = 1
 methodNumber Two = 2
 
--- 'Refused calls': what is returned; 18 is document 02, W-202
+-- 'Refused calls': what is returned; document 02 adds 18 (W-202) and 19 (W-203)
 abbrev pub refusalNumber : Refusal → ℕ
 refusalNumber refusals.SampleCount = 1
 refusalNumber refusals.WindowPastDayEnd = 2
@@ -52,6 +52,7 @@ refusalNumber refusals.LandUnknown = 15
 refusalNumber refusals.FileFault = 16
 refusalNumber refusals.FileTooLong = 17
 refusalNumber refusals.SettingsInvalid = 18
+refusalNumber refusals.ListUnfit = 19
 
 -- 'Refused calls': the number by which a call is refused, 0 where it is not
 abbrev pub checkNumber : Check → ℕ

@@ -1,4 +1,5 @@
--- What every crate cites: tables of refusals and outcomes, the numbers and values of the answers, and the limits of levels.
+-- What every crate cites: tables of refusals and outcomes, the numbers and values of the answers, the limits of levels, and lists.
 pub mod Rules
 pub mod Answers
 pub mod Limits
+pub mod Lists

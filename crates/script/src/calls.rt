@@ -1,4 +1,5 @@
 // The calls of a script, made through the functions that C calls: each takes its arguments from the numbers of a line.
+use crate::pairs;
 use script_text::answers;
 use script_text::answers::Text;
 use script_text::words;
@@ -252,6 +253,7 @@ pub fn make(day: &mut [u32; 320], call: &[u8]) -> Text {
         b'r' => rewrite(&numbers),
         b'v' => verdict(&numbers),
         b'l' => land_class(&numbers),
+        b'p' => pairs::pair(&numbers, words),
         _ => answers::nothing(),
     }
 }

@@ -4,12 +4,13 @@
 //     LABEL: CALL WORDS = ANSWER          a call; answers that are right are separated by '|', and one that is plausible and wrong stands behind ', not'
 //     TEXT                                a line without ':' is a heading
 //
-// In a call 8000*3 stands for 8000 8000 8000. The calls are told by their first letter: book, terminal, offer, close, highest, week, year, rewrite, verdict, land.
+// In a call 8000*3 stands for 8000 8000 8000. The calls are told by their first letter: book, terminal, offer, close, highest, week, year, rewrite, verdict, land, pair.
 ghost use mathlib.Core.Path.{_≡_};
 ghost use Prim.Native.Nat.{_≤_};
 ghost use lib.ListN.{length};
 
 mod calls;
+mod pairs;
 
 use judging::Progress;
 use libc::STDOUT_FILENO;

@@ -42,6 +42,16 @@ pub fn numbers_part(numbers: &[u16], from: usize, to: usize) -> &[u16] {
     &numbers[..0]
 }
 
+// Of ticks.
+pub fn ticks_part(ticks: &[u32], from: usize, to: usize) -> &[u32] {
+    if to <= ticks.len() {
+        if from <= to {
+            return &ticks[from..to];
+        }
+    }
+    &ticks[..0]
+}
+
 // And of records.
 pub fn records_part(records: &[u64], from: usize, to: usize) -> &[u64] {
     if to <= records.len() {
@@ -69,18 +79,24 @@ pub fn number_at(numbers: &[u32], at: usize) -> u32 {
     if at < numbers.len() { numbers[at] } else { 0 }
 }
 
-// A number with one digit more; one that would pass nine digits stays.
+// The mark at a place, 0 behind the end.
+pub fn mark_at(marks: &[u16], at: usize) -> u16 {
+    if at < marks.len() { marks[at] } else { 0 }
+}
+
+// A number with one digit more; one that would pass 32 bits stays.
 fn with_digit(value: u32, byte: u8) -> u32 {
-    if 99999999 < value {
-        return value;
-    }
     if byte < b'0' {
         return value;
     }
     if b'9' < byte {
         return value;
     }
-    10 * value + (byte - b'0') as u32
+    let longer = 10 * (value as u64) + (byte - b'0') as u64;
+    if 4294967295 < longer {
+        return value;
+    }
+    longer as u32
 }
 
 // Puts a number behind those that are there, while there is room, and gives their count.
