@@ -1,4 +1,5 @@
-/* Opens a day, offers two fly-overs, closes it, and forms a year of such days and its verdict. Built and run by examples/run_c. */
+/* Opens a day, offers two fly-overs, closes it, forms a year of such days and its verdict, and holds the tower's log against the fly-overs. Built and
+ * run by examples/run_c. */
 #include "moatburdock.h"
 
 #include <stdio.h>
@@ -50,6 +51,20 @@ int main(void) {
         || failed("the verdict", moatburdock_verdict(land_class, mean, true, counts[2], &finding, &margin)))
         return 1;
     printf("the year: YLdn %u.%02u dB; class %u, finding %u, margin %d hundredths\n", mean / 100, mean % 100, land_class, finding, margin);
+
+    /* The tower's log against the peaks of the two fly-overs, with five seconds of tolerance. */
+    const uint32_t movements[] = {431990, 432000, 799960}, peaks[] = {432001, 800001};
+    uint16_t movement_marks[3] = {0}, peak_marks[2] = {0}, pairs = 0;
+    if (failed("the pairing", moatburdock_pair_movements(movements, 3, peaks, 2, 50, movement_marks, 3, peak_marks, 2, &pairs)))
+        return 1;
+    printf("the tower's log: %u of 3 movements have a peak of their own\n", pairs);
+    for (int i = 0; i < 3; i++) {
+        if (movement_marks[i] == 0)
+            printf("movement %d: unpaired\n", i + 1);
+        else
+            printf("movement %d: peak %u\n", i + 1, movement_marks[i]);
+    }
+
     uint32_t exposure = 0, lmax = 0;
     printf("a day of 30 samples a second: refusal %u\n", moatburdock_open_day(day, 30, 216000, 791999, daytime, 2, night, 2));
     printf("a second fly-over at noon: refusal %u\n", moatburdock_offer(day, 432000, 0, 30, false, 6000, samples, 5, &exposure, &lmax));

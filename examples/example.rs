@@ -1,4 +1,5 @@
-// Opens a day, offers two fly-overs, closes it, and forms a year of such days. Built and run by examples/run_rust.
+// Opens a day, offers two fly-overs, closes it, forms a year of such days, and holds the tower's log against the fly-overs. Built and run by
+// examples/run_rust.
 #[link(name = "moatburdock", kind = "static")]
 extern "C" {
     fn moatburdock_open_day(day: *mut u32, rate: u32, first: u32, last: u32, daytime: *const u16, classes: usize, night: *const u16, others: usize) -> u8;
@@ -6,6 +7,8 @@ extern "C" {
         exposure: *mut u32, lmax: *mut u32) -> u8;
     fn moatburdock_close_day(day: *const u32, before: u32, after: u32, record: *mut u64, counts: *mut u32, highest_by_class: *mut u32) -> u8;
     fn moatburdock_year_mean(records: *const u64, count: usize, level: *mut u32) -> u8;
+    fn moatburdock_pair_movements(movements: *const u32, movement_count: usize, peaks: *const u32, peak_count: usize, tolerance: u32,
+        movement_marks: *mut u16, movement_mark_count: usize, peak_marks: *mut u16, peak_mark_count: usize, pair_count: *mut u16) -> u8;
 }
 
 /// A refusal, by its number.
@@ -47,6 +50,16 @@ impl Day {
     }
 }
 
+/// For each movement the peak that it is paired with, by its place from 1.
+fn paired(movements: &[u32], peaks: &[u32], tolerance: u32) -> Result<Vec<Option<u16>>, Refused> {
+    let (mut movement_marks, mut peak_marks, mut pairs) = (vec![0; movements.len()], vec![0; peaks.len()], 0);
+    checked(unsafe {
+        moatburdock_pair_movements(movements.as_ptr(), movements.len(), peaks.as_ptr(), peaks.len(), tolerance, movement_marks.as_mut_ptr(),
+            movement_marks.len(), peak_marks.as_mut_ptr(), peak_marks.len(), &mut pairs)
+    })?;
+    Ok(movement_marks.into_iter().map(|mark| (mark != 0).then_some(mark)).collect())
+}
+
 fn main() -> Result<(), Refused> {
     let samples = [6000, 8000, 8000, 8000, 6000];
     // Ten samples a second, daytime from 06:00 to 22:00.
@@ -63,6 +76,10 @@ fn main() -> Result<(), Refused> {
     let mut mean = 0;
     checked(unsafe { moatburdock_year_mean([record; 365].as_ptr(), 365, &mut mean) })?;
     println!("a year of such days: YLdn {:.2} dB", mean as f64 / 100.0);
+    println!("the tower's movements and their peaks: {:?}", paired(&[431990, 432000, 799960], &[432001, 800001], 50)?);
+    if let Err(Refused(number)) = paired(&[432000, 431990], &[432001, 800001], 50) {
+        println!("movements that are not in order: refusal {}", number);
+    }
     if let Err(Refused(number)) = Day::open(Settings(20, 432000, 1728000), &[1], &[1]) {
         println!("a last daytime tick behind the day: refusal {}", number);
     }

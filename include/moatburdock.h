@@ -13,7 +13,8 @@
  * closing by 11 or 12.
  *
  * What each function computes is an equation that is proved for every argument: crates/c_interface/specs/Calls.antt, over the definitions of
- * crates/ledger, offering, closing, mean and land; of the reader crates/c_reader/specs/Calls.antt, over those of crates/steps. */
+ * crates/ledger, offering, closing, mean, land and pairing; of the reader crates/c_reader/specs/Calls.antt, over those of crates/steps. Of a pairing it is
+ * proved that it is one of the largest. */
 #ifndef MOATBURDOCK_H
 #define MOATBURDOCK_H
 
@@ -62,7 +63,8 @@ enum moatburdock_refusal {
     MOATBURDOCK_FILE_FAULT,             /* a day file ends early, the count of its settings is not 1 or that of its calibration not 2, or an event has more
                                            than 600 seconds of samples */
     MOATBURDOCK_FILE_TOO_LONG,          /* bytes behind the last event of a day file */
-    MOATBURDOCK_SETTINGS_INVALID        /* a rate that is not 10, 20 or 40, a first daytime tick above the last, or a last one that is not inside the day */
+    MOATBURDOCK_SETTINGS_INVALID,       /* a rate that is not 10, 20 or 40, a first daytime tick above the last, or a last one that is not inside the day */
+    MOATBURDOCK_LIST_UNFIT              /* a list of times that falls, is longer than 2000, or has marks of another length */
 };
 
 /* What a verdict names. */
@@ -106,6 +108,13 @@ uint8_t moatburdock_verdict(uint8_t land_class, uint32_t yearly, bool sensitive,
 
 /* The class of a land code, a capital letter and a digit as ASCII. Refusal 15. */
 uint8_t moatburdock_land_class(uint8_t letter, uint8_t digit, uint8_t *land_class);
+
+/* Pairs the movements of the tower's log with the peaks of events: two lists of times that do not fall, equal neighbours allowed, and a tolerance, all in
+ * ticks. No pair is further apart than the tolerance, no entry is used twice, and no pairing under that rule has more pairs; which of several largest ones
+ * is given is left free. Gives their count, and for each entry a mark: its partner's place counted from 1, or 0 where it is unpaired. As many marks are
+ * lent as each list has entries. Refusal 19, which leaves the marks and the count as they were. */
+uint8_t moatburdock_pair_movements(const uint32_t *movements, size_t movement_count, const uint32_t *peaks, size_t peak_count, uint32_t tolerance,
+                                   uint16_t *movement_marks, size_t movement_mark_count, uint16_t *peak_marks, size_t peak_mark_count, uint16_t *pair_count);
 
 /* The reader of day files, from any transport and in whatever pieces the file comes. */
 
