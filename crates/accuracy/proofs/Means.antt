@@ -13,6 +13,7 @@ use Rattle.quantity.specs.Answers.{Reading, level, below-scale}
 use Rattle.quantity.specs.Limits.{highestSample, highestDayLevel}
 use Rattle.quantity.specs.Lists.{Each}
 use Rattle.quantity.specs.Rules.{firstOf, Outcome, refused, given, outcome}
+use Rattle.quantity.proofs.Lists.{each-map}
 use Rattle.quantity.proofs.Outcomes.{given-value}
 use Rattle.quantity.proofs.Refusing.{skip, stop, end}
 use Rattle.quantity.proofs.Tests.{neither}
@@ -194,8 +195,7 @@ module _ (K r : ℕ) (days : List ClosedDay) (stand : Each Stands days) (some : 
 
 -- measured days have a mean on the scale
 stands : (days : List ClosedDay) → Each Measured days → Each Stands days
-stands [] all = tt
-stands (d ∷ ds) all = (inl (all .0), stands ds (all .1))
+stands = each-map (λ d. inl)
 
 on-scale : (days : List ClosedDay) → Each Measured days → length days * e 0 ≤ levels e days
 unfolding levels

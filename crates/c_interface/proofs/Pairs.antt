@@ -1,5 +1,5 @@
 -- What a pairing leaves in what it was lent, by the case of its answer.
-use mathlib.Core.Path.{_≡_, refl, sym}
+use mathlib.Core.Path.{_≡_, refl}
 use mathlib.Core.List.{List}
 use Prim.Native.Nat.{ℕ}
 use Rattle.quantity.specs.Rules.{Outcome, refused, given}

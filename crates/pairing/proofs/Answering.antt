@@ -1,11 +1,11 @@
 -- What a call answers by the rule.
 use mathlib.Core.Path.{_≡_, refl, sym, ap, _∙_}
 use mathlib.Core.Bool.{true, false, or-true}
-use mathlib.Core.List.{List, []}
-use Prim.Native.Nat.{ℕ, suc}
+use mathlib.Core.List.{List}
+use Prim.Native.Nat.{ℕ}
 use native.Mathlib.Omega.{arith}
 use lib.ListN.{length, replicate, length-replicate}
-use Rattle.quantity.specs.Rules.{Outcome, refused, given, firstOf}
+use Rattle.quantity.specs.Rules.{Outcome, refused, given}
 use Rattle.quantity.proofs.Refusing.{stops, passes}
 use Rattle.pairing.specs.Pairing.{Marks, Largest}
 use Rattle.pairing.specs.Answers.{unfit, pairingRules, Answered, untouched, paired}

@@ -12,13 +12,10 @@ use lib.Dec.{ltb}
 use lib.ListN.{length, getD}
 use Rattle.quantity.specs.Lists.{Each}
 use Rattle.quantity.proofs.Tests.{test}
+use Rattle.quantity.proofs.Lists.{each-map}
 use Rattle.pairing.specs.Answers.{falls}
 use Rattle.pairing.specs.Pairing.{Pair, Near, Pairing}
 use Rattle.pairing.proofs.Rising.{rising}
-
-each-map : {A : Type 0} {P Q : A → Type 0} → ((x : A) → P x → Q x) → (xs : List A) → Each P xs → Each Q xs
-each-map f [] e = tt
-each-map f (x ∷ xs) e = (f x (e .0), each-map f xs (e .1))
 
 -- what is not in a list is none of its entries
 each-other : (k : ℕ) (places : List ℕ) → (List·Mem k places → ⊥) → Each (λ place. place ≢ k) places

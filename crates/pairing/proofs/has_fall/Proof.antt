@@ -1,7 +1,6 @@
 -- `pairing::has_fall` meets its contract: the list falls where the rest that is left falls.
 use mathlib.Core.Path.{sym, _∙_}
 use Prim.Native.Nat.{_-_}
-use native.Mathlib.Omega.{arith}
 use lib.ListN.{length}
 use Rattle.pairing.proofs.Rising.{FallsFrom, from-first, from-next, from-fall, from-last}
 use borrow.Author.Needs.{needs}
