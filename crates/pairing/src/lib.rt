@@ -23,7 +23,7 @@ fn is_earlier(time: u32, other: u32) -> bool
     time < other
 }
 
-// How far apart two times are.
+// How far apart two times are, in ticks.
 fn distance(time: u32, other: u32) -> u32
     ensures { λ r. ⌜ r ≡ distance time other ⌝ }
 {
@@ -33,7 +33,7 @@ fn distance(time: u32, other: u32) -> u32
     time - other
 }
 
-// Whether a time is earlier than the one before it.
+// Whether a list falls: some time in it is earlier than the one before.
 fn has_fall(times: &[u32]) -> bool
     ensures { λ r. ⌜ r ≡ falls (now (times .entry)) ⌝ }
 {
