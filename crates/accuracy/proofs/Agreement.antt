@@ -14,6 +14,7 @@ use Rattle.quantity.specs.Rules.{firstOf}
 use Rattle.quantity.specs.declared.HighestLevel.{HighestLevel}
 use Rattle.quantity.specs.declared.HighestLevel.the-variants as highests
 use Rattle.quantity.proofs.Refusing.{pass}
+use Rattle.quantity.proofs.Lists.{zero-at}
 use Rattle.power.specs.Power.{e}
 use Rattle.limbs.specs.Value.{value, limbsOf}
 use Rattle.limbs.proofs.Digits.{value-limbsOf-whole}
@@ -28,7 +29,7 @@ use Rattle.ledger.specs.declared.Day.{Day}
 use Rattle.accuracy.specs.Tally.{Held, Tally, bookOf, started}
 use Rattle.accuracy.specs.Laws.{Apart, periodEnergy}
 use Rattle.quantity.proofs.Tests.{neither}
-use Rattle.accuracy.proofs.Lists.{padded-at, padded-sum, padded-zeros, zeros-at}
+use Rattle.accuracy.proofs.Lists.{padded-at, padded-sum, padded-zeros}
 use Rattle.accuracy.proofs.Sums.{heldEnergy, period-part, day-fits}
 
 -- the day that a tally gives: for each period the flights and the counts in sixteen places, and the energy in four limbs
@@ -130,7 +131,7 @@ fresh o h =
             most = ltb-false mostClasses n (classes .1);
             booked = book-even (o .daytime) (o .night) even;
             counted = λ p. length-replicate n 0;
-            counts = λ p class. rw (zeros-at n class) zero-le;
+            counts = λ p class. rw (zero-at n class) zero-le;
             classes = tt;
             day = zero-le;
             apart = tt;

@@ -6,12 +6,13 @@ use Prim.Native.Nat.{ℕ, zero, suc, _≤_, _<_}
 use native.Mathlib.Omega.{arith}
 use borrow.Author.Tests.{ltb-true, ltb-false, eqb-true, eqb-false, ne-eqb}
 use lib.Dec.{ltb, eqb}
-use lib.ListN.{length, getD, set, replicate, length-set}
+use lib.ListN.{length, getD, set, length-set}
 use lib.Seq.{getD-set-same, getD-set-other}
 use Rattle.quantity.specs.Answers.{highestReading}
 use Rattle.quantity.specs.declared.HighestLevel.{HighestLevel}
 use Rattle.quantity.specs.declared.HighestLevel.the-variants as highests
 use Rattle.quantity.proofs.Tests.{test}
+use Rattle.quantity.proofs.Lists.{same-at}
 use Rattle.event.specs.Window.{highest}
 use Rattle.ledger.specs.Book.{mostClasses}
 use Rattle.ledger.specs.Day.{levelsByClass}
@@ -55,14 +56,9 @@ sixteen : (hs : List Held) → length (classLevels hs) ≡ mostClasses
 sixteen [] = refl
 sixteen (h ∷ hs) = ap length (level-more h hs) ∙ length-set (classLevels hs) (h .class) _ ∙ sixteen hs
 
-none-at : (n k : ℕ) → _≡_ {A = Option ℕ} (getD (replicate n none) k none) none
-none-at zero k = refl
-none-at (suc n) zero = refl
-none-at (suc n) (suc k) = none-at n k
-
 -- each class has the highest level of its own stretches
 by-class : {n : ℕ} (hs : List Held) → n ≤ mostClasses → OfFirst n hs → ByClass hs (classLevels hs)
-by-class [] l p class = none-at mostClasses class
+by-class [] l p class = same-at none mostClasses class
 by-class (h ∷ hs) l p class =
     let so-far : ByClass hs (classLevels hs) = by-class hs l (p .1) in
     let there : h .class < length (classLevels hs) = omega (arith, l, p .0, sixteen hs) in

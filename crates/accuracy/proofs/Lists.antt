@@ -43,11 +43,6 @@ padded-zeros zero k = refl
 padded-zeros (suc n) zero = ap (λ (l : List ℕ). 0 ∷ l) (padded-zeros n zero)
 padded-zeros (suc n) (suc k) = ap (λ (l : List ℕ). 0 ∷ l) (padded-zeros n k)
 
-pub zeros-at : (n k : ℕ) → _≡_ {A = ℕ} (getD (replicate n 0) k 0) 0
-zeros-at zero k = refl
-zeros-at (suc n) zero = refl
-zeros-at (suc n) (suc k) = zeros-at n k
-
 -- counts within a book, one of them raised by one where the book has more
 pub raised-within : (counts book : List ℕ) (k : ℕ) → k < length counts → getD counts k 0 < getD book k 0
     → ((j : ℕ) → getD counts j 0 ≤ getD book j 0) → (j : ℕ) → getD (set counts k (getD counts k 0 + 1)) j 0 ≤ getD book j 0

@@ -17,12 +17,13 @@ use Rattle.quantity.specs.Limits.{highestDayLevel}
 use Rattle.quantity.specs.declared.DayAnswer.{DayAnswer}
 use Rattle.quantity.proofs.Refusing.{pass, refusal-positive}
 use Rattle.quantity.proofs.Tests.{neither}
+use Rattle.quantity.proofs.Lists.{zero-at}
 use Rattle.quantity.specs.declared.Check.{Check}
 use Rattle.quantity.specs.declared.Check.the-variants.{Refused}
 use Rattle.quantity.specs.declared.Refusal.{Refusal}
 use Rattle.power.specs.Power.{e, G}
 use Rattle.decades.specs.Sums.{total, withPower, Readable}
-use Rattle.decades.proofs.Counting.{Added, added, zeros, fresh}
+use Rattle.decades.proofs.Counting.{Added, added, fresh}
 use Rattle.level.specs.Level.{levelOf}
 use Rattle.mean.specs.Mean.{powerOf, sumOfPowers, isTooHigh, anyTooHigh, isCountWrong, meanRules, meanOf}
 use Rattle.mean.specs.Records.{readings, blank, recordAt, DayReading, dayReading, rewriteRules, rewriteNumber, rewritten}
@@ -76,7 +77,7 @@ total-kept n t (day ∷ days) p =
     rw (← e) (total-kept (suc n) (withDay t day) days (day-kept n t day p))
 
 no-days-kept : Kept 0 (noDays .sums)
-no-days-kept = record { size = refl; most = λ j. omega (arith, zeros 21 j) }
+no-days-kept = record { size = refl; most = λ j. omega (arith, zero-at 21 j) }
 
 pub total-readable : (days : List Reading) → length days ≤ 366 → Readable (totalOf noDays days .sums)
 total-readable days h =

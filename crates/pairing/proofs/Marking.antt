@@ -13,17 +13,13 @@ use lib.ListN.{length, getD, set, replicate, length-set, length-replicate}
 use lib.Seq.{getD-set-same, getD-set-other, ext-getD}
 use Rattle.quantity.specs.Lists.{Each}
 use Rattle.quantity.proofs.Tests.{test}
+use Rattle.quantity.proofs.Lists.{zero-at}
 use Rattle.pairing.specs.Pairing.{Pair, Near, Pairing, pairsFrom, Largest}
 
 -- cleared marks name nothing
-pub zeros : (n k : ℕ) → _≡_ {A = ℕ} (getD (replicate n 0) k 0) 0
-zeros zero k = refl
-zeros (suc n) zero = refl
-zeros (suc n) (suc k) = zeros n k
-
-zeros-pairs : (i n : ℕ) → length (pairsFrom i (replicate n 0)) ≡ 0
-zeros-pairs i zero = refl
-zeros-pairs i (suc n) = zeros-pairs (suc i) n
+no-pairs : (i n : ℕ) → length (pairsFrom i (replicate n 0)) ≡ 0
+no-pairs i zero = refl
+no-pairs i (suc n) = no-pairs (suc i) n
 
 -- the marks that are passed are cleared
 pub record Cleared (marks₀ marks : List ℕ) (i : ℕ) : Type 0 where
@@ -47,7 +43,7 @@ module _ {marks₀ marks : List ℕ} {i : ℕ} (p : Cleared marks₀ marks i) wh
   pub cleared-all : length marks ≤ i → marks ≡ replicate (length marks₀) 0
   cleared-all h =
       ext-getD 0 marks (replicate (length marks₀) 0) (p .as-long ∙ sym (length-replicate (length marks₀) 0))
-      (λ k l. p .cleared k (omega arith) ∙ sym (zeros (length marks₀) k))
+      (λ k l. p .cleared k (omega arith) ∙ sym (zero-at (length marks₀) k))
 
 -- a mark in the place of a 0 names one pair more
 pairs-more : (i : ℕ) (marks : List ℕ) (k j : ℕ) → k < length marks → getD marks k 0 ≡ 0
@@ -68,9 +64,9 @@ pub record Marked (movements peaks : List ℕ) (tolerance : ℕ) (m p : List ℕ
 pub marked-none : (movements peaks : List ℕ) (tolerance m n : ℕ) → Marked movements peaks tolerance (replicate m 0) (replicate n 0) 0
 marked-none movements peaks tolerance m n =
     record {
-      movement-named = λ i j e. absurd (omega (arith, zeros m i));
-      peak-named = λ i j e. absurd (omega (arith, zeros n j));
-      counted = zeros-pairs 0 m;
+      movement-named = λ i j e. absurd (omega (arith, zero-at m i));
+      peak-named = λ i j e. absurd (omega (arith, zero-at n j));
+      counted = no-pairs 0 m;
     }
 
 -- a pair of two entries that are not marked

@@ -8,11 +8,12 @@ use borrow.Author.Tests.{ltb-true, ltb-false}
 use lib.Dec.{ltb}
 use lib.ListN.{length, getD, set, replicate}
 use lib.Seq.{getD-set-other}
+use Rattle.quantity.proofs.Lists.{zero-at}
 use Rattle.pairing.specs.Answers.{unfit}
 use Rattle.pairing.specs.Pairing.{distance, Near, Largest}
 use Rattle.pairing.proofs.Rising.{Fit, fit, fit-set}
 use Rattle.pairing.proofs.Counting.{Most, most-none, most-pair, most-movement, most-peak, most-movements, most-peaks}
-use Rattle.pairing.proofs.Marking.{zeros, Marked, marked-none, marked-more, largest}
+use Rattle.pairing.proofs.Marking.{Marked, marked-none, marked-more, largest}
 
 -- what lies before the movement at i and the peak at j is settled
 pub record Settled (movements peaks : List ℕ) (tolerance : ℕ) (m p : List ℕ) (i j count : ℕ) : Type 0 where
@@ -33,8 +34,8 @@ settled-none movements peaks tolerance m p a b x y =
       peaks-fit = fit peaks p b;
       few = omega arith;
       marked = rw (x, y) (marked-none movements peaks tolerance (length m) (length p));
-      m-free = λ k h. rw x (zeros (length m) k);
-      p-free = λ k h. rw y (zeros (length p) k);
+      m-free = λ k h. rw x (zero-at (length m) k);
+      p-free = λ k h. rw y (zero-at (length p) k);
       most = most-none movements peaks tolerance;
     }
 
