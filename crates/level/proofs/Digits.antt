@@ -1,15 +1,29 @@
 -- The leading digits of a number: one digit fewer, and the level that they show.
 use mathlib.Core.Path.{_≡_, _∙_}
+use mathlib.Core.Logic.{_↔_}
 use Prim.Native.Nat.{ℕ, suc, _+_, _-_, _*_, _/_, _^_, _≤_, _<_}
-use native.Mathlib.Nat.{add-assoc, add-zero, one-mul, pow-zero, pow-suc, one-le-pow, div-one, le-div-iff-mul-le, div-lt-iff-lt-mul, div-div-eq-div-mul, lt-of-not-le}
+use native.Mathlib.Nat.{
+  add-assoc,
+  add-zero,
+  one-mul,
+  pow-zero,
+  pow-suc,
+  one-le-pow,
+  div-one,
+  le-div-iff-mul-le,
+  div-lt-iff-lt-mul,
+  div-div-eq-div-mul,
+  lt-of-not-le,
+  not-le-of-lt,
+}
 use native.Mathlib.Numerals.{add-one}
 use native.Mathlib.Omega.{arith}
-use lib.Dec.{lit<, lit≤}
+use lib.Dec.{lit<}
 use Rattle.quantity.specs.Answers.{level, below-scale}
 use Rattle.power.specs.Power.{m, e, G}
-use Rattle.power.proofs.Scale.{e-zero, e-at, m-zero, m-thousand, digit-reached, digit-passed}
+use Rattle.power.proofs.Scale.{e-zero, e-at}
 use Rattle.level.specs.Level.{levelOf}
-use Rattle.level.specs.Leading.{Leads, Between, Found}
+use Rattle.level.specs.Leading.{Leads, Found}
 use Rattle.level.proofs.Answer.{answered}
 
 positive : (t : ℕ) → 0 < 10 ^ t
@@ -52,26 +66,6 @@ module _ {first start digits omitted : ℕ} (p : Shortening first start digits o
         room = div-lt-iff-lt-mul (lit< tt) .1 (rw (k, pow-suc) at p.room);
       }
 
--- the halving search begins with the whole table, or with the mantissas whose first digit is at least d and less than t
-pub between-starts : {digits : ℕ} → G ≤ digits → digits < 10 * G → Between digits 0 1000
-between-starts l h = record { order = lit< tt; end = lit≤ tt; reached = rw m-zero l; missed = rw m-thousand h }
-
-pub between-digits : {digits low high : ℕ} (d t : ℕ)
-    → low < high
-    → high ≤ 1000
-    → 10 ^ low ≤ d ^ 1000
-    → t ^ 1000 ≤ 10 ^ high
-    → d * G ≤ digits
-    → digits < t * G
-    → Between digits low high
-between-digits {digits} {low} {high} d t o e l h a b =
-    record { order = o; end = e; reached = omega (arith, digit-reached d low l); missed = omega (arith, digit-passed t high h) }
-
-pub between-ends : {digits low high : ℕ} → Between digits low high → high ≤ low + 1 → Found digits low
-between-ends {digits} {low} {high} p h =
-    let e : high ≡ low + 1 = omega (arith, p .order) in
-    record { place = omega (arith, p .order, p .end); low = p .reached; high = rw (← e) (p .missed) }
-
 -- ten digits or fewer are below the scale where they do not reach its first mantissa
 pub digits-below : {n digits omitted : ℕ} → digits < G → Leads n digits omitted → below-scale ≡ levelOf 0 1 n
 digits-below {n} {digits} {omitted} h l =
@@ -80,12 +74,15 @@ digits-below {n} {digits} {omitted} h l =
     let all : digits ≡ n = l .cut ∙ (rw (none, pow-zero) (div-one n)) in
     answered 0 1 n below-scale (lit< tt) (rw e-zero (omega arith))
 
--- and else show the level
+-- to try a mantissa on the digits is to try a level on the number
+pub tried : (f : ℕ) → f ≤ 1000 → {n digits omitted : ℕ} → Leads n digits omitted → (m f ≤ digits) ↔ (e (1000 * omitted + f) ≤ n)
+tried f h {n} {digits} {omitted} l = rw (l .cut, e-at omitted f h) (le-div-iff-mul-le (positive omitted))
+
+-- so digits that are not below the scale show the level
 pub digits-level : {n digits omitted f : ℕ} → Found digits f → Leads n digits omitted → level (1000 * omitted + f) ≡ levelOf 0 1 n
 digits-level {n} {digits} {omitted} {f} p l =
     let c = 1000 * omitted + f in
-    let low : m f * 10 ^ omitted ≤ n = le-div-iff-mul-le (positive omitted) .0 (rw (l .cut) at (p .low)) in
-    let high : n < m (f + 1) * 10 ^ omitted = div-lt-iff-lt-mul (positive omitted) .0 (rw (l .cut) at (p .high)) in
-    let at : e c ≡ m f * 10 ^ omitted = e-at omitted f (omega arith) in
-    let next : e (c + 1) ≡ m (f + 1) * 10 ^ omitted = rw (add-assoc (1000 * omitted) f 1) (e-at omitted (f + 1) (omega arith)) in
-    answered 0 1 n (level c) (lit< tt) (rw (add-zero c, one-mul (e c), at) low, rw (add-zero (c + 1), one-mul (e (c + 1)), next) high)
+    let reached : e c ≤ n = tried f (omega (arith, p .place)) l .0 (p .low) in
+    let missed : n < e (c + 1) =
+    rw (add-assoc (1000 * omitted) f 1) (lt-of-not-le (λ h. not-le-of-lt (p .high) (tried (f + 1) (omega (arith, p .place)) l .1 h))) in
+    answered 0 1 n (level c) (lit< tt) (rw (add-zero c, one-mul (e c)) reached, rw (add-zero (c + 1), one-mul (e (c + 1))) missed)

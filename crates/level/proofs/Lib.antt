@@ -1,5 +1,6 @@
--- The laws of levels: the one answer, both accuracy bounds, and the digits from which a level is read.
+-- The laws of levels: the one answer, both accuracy bounds, the digits from which a level is read, and the search for it.
 pub mod Answer
 pub mod Bounds
 pub mod Digits
+pub mod Halving
 pub mod Quotient

@@ -2,7 +2,20 @@
 use mathlib.Core.Path.{_≡_, refl, ap, sym, _∙_}
 use mathlib.Core.List.{List}
 use Prim.Native.Nat.{ℕ, _+_, _*_, _/_, _%_, _^_, _≤_, _<_}
-use native.Mathlib.Nat.{pow-zero, div-one, div-eq-of-lt, div-div-eq-div-mul, mod-lt, mod-eq-of-lt, pow-le-pow-right, one-le-pow, lt-of-lt-of-le, le-trans, lt-of-not-le}
+use native.Mathlib.Nat.{
+  pow-zero,
+  div-one,
+  div-lt-iff-lt-mul,
+  div-div-eq-div-mul,
+  mod-lt,
+  mod-eq-of-lt,
+  mul-le-mul-left,
+  pow-le-pow-right,
+  one-le-pow,
+  lt-of-lt-of-le,
+  le-trans,
+  lt-of-not-le,
+}
 use native.Mathlib.Omega.{arith}
 use lib.Dec.{lit<, lit≤}
 use lib.ListN.{length}
@@ -16,7 +29,7 @@ pub record Reducing (first q : List ℕ) (omitted : ℕ) : Type 0 where
   pub size : length q ≡ 6
   pub leads : Leads (value first) (value q) omitted
   pub room : value first < base ^ 6
-  pub most : omitted ≤ 66
+  pub most : omitted ≤ 47
 
 -- a quotient by itself
 pub reducing-starts : (q : List ℕ) (n k : ℕ) → k ≡ 6 → length q ≡ k → q ≡ limbsOf k n → Reducing q q 0
@@ -29,12 +42,12 @@ reducing-starts q n k s l h =
     }
 
 module _ {first q : List ℕ} {omitted : ℕ} (p : Reducing first q omitted) where
-  -- a number that passes 64 bits has had fewer than 58 digits left out
-  pub reducing-few : base * base ≤ value q → omitted < 58
+  -- a quotient that passes 64 bits has twenty digits or more left
+  pub reducing-few : base * base ≤ value q → omitted < 39
   reducing-few h = lt-of-not-le (λ l.
-      let none : value first / 10 ^ omitted ≡ 0 =
-      div-eq-of-lt (lt-of-lt-of-le (p .room) (le-trans {m = 10 ^ 58} (lit≤ tt) (pow-le-pow-right {n = 10} (lit< tt) l))) in
-      omega (arith, p .leads .cut ∙ none))
+      let room : value first < 10 ^ 19 * 10 ^ omitted =
+      lt-of-lt-of-le (p .room) (le-trans {m = 10 ^ 19 * 10 ^ 39} (lit≤ tt) (mul-le-mul-left (10 ^ 19) (pow-le-pow-right {n = 10} (lit< tt) l))) in
+      omega (arith, rw (← p .leads .cut) at (div-lt-iff-lt-mul (one-le-pow omitted 10 (lit< tt)) .1 room)))
 
   pub reducing-turn : {r : List ℕ} → length r ≡ length q → base * base ≤ value q → value r ≡ value q / 10 ^ 9 → Reducing first r (omitted + 9)
   reducing-turn l h e =

@@ -1,9 +1,10 @@
 // The level of a sum over a divisor: the quotient is cut to its ten leading digits, and these are looked up among the mantissas.
 ghost use mathlib.Core.Path.{_≡_};
 ghost use Prim.Native.Nat.{ℕ, _+_, _*_, _/_, _≤_, _<_};
+ghost use lib.Dec.{leb};
 ghost use lib.ListN.{length};
 ghost use Rattle.quantity.specs.Answers.{reading};
-ghost use Rattle.power.specs.Power.{G};
+ghost use Rattle.power.specs.Power.{G, m};
 ghost use Rattle.power.specs.Table.{IsRow, IsTable};
 ghost use Rattle.limbs.specs.Value.{value};
 ghost use Rattle.level.specs.Level.{levelOf};
@@ -20,17 +21,30 @@ pub struct Leading {
     pub omitted: u32,
 }
 
-// The place of the largest mantissa that is at most the digits, which lies from first on and before end. The row has the places from `from` on. The range
-// halves with each turn.
+// Tries one level: whether the digits reach its mantissa. The row has the places from `from` on.
+fn is_reached(row: &[u64], from: u32, place: u32, digits: u64) -> bool
+    requires { ⌜ IsRow from (now row) × (from ≤ place) × (place < from + length (now row)) ⌝ }
+    ensures { λ r. ⌜ r ≡ leb (m place) digits ⌝ }
+{
+    row[(place - from) as usize] <= digits
+}
+
+// The turns that close any range of the thousand mantissas, since each turn halves it: 2^10 is 1024.
+const MOST_TURNS: u32 = 10;
+
+// The place of the largest mantissa that is at most the digits, which lies from first on and before end. The search stops when one place is left; that the
+// turns do not run out before is what the count of them shows.
 fn place_in(row: &[u64], from: u32, first: u32, end: u32, digits: u64) -> u32
     requires { ⌜ IsRow from (now row) × Between digits first end × (from ≤ first + 1) × (end ≤ from + length (now row)) ⌝ }
     ensures { λ r. ⌜ Found digits r ⌝ }
 {
     let mut low = first;
     let mut high = end;
+    let mut turns_left = MOST_TURNS;
     while low + 1 < high {
+        turns_left -= 1;
         let middle = (low + high) / 2;
-        if row[(middle - from) as usize] <= digits {
+        if is_reached(row, from, middle, digits) {
             low = middle;
         } else {
             high = middle;

@@ -1,6 +1,6 @@
 -- `level::leading_quotient` meets its contract: nine digits are left out a turn, until the quotient fits 64 bits.
 use mathlib.Core.Path.{sym, _∙_}
-use Prim.Native.Nat.{_-_, _*_, _≤_}
+use Prim.Native.Nat.{_-_, _*_, _/_, _≤_}
 use native.Mathlib.Omega.{arith}
 use borrow.Author.Needs.{needs}
 use borrow.Author.Tests.{not-true, not-false, ltb-true, ltb-false}
@@ -13,7 +13,7 @@ abbrev Inv-loop : tie.InvT-loop
 Inv-loop divisor quotient₀ omitted₀ quotient omitted = Reducing quotient₀ quotient omitted
 
 abbrev μ-loop : tie.MeasureT-loop
-μ-loop divisor quotient₀ omitted₀ quotient omitted = 100 - omitted
+μ-loop divisor quotient₀ omitted₀ quotient omitted = (47 - omitted) / 9
 
 -- in the loop the quotient passes 64 bits
 passes : (c : tie.Then1 Inv-loop μ-loop) → base * base ≤ value (c .before .before .before .loop .quotient)

@@ -1,7 +1,7 @@
 -- `level::place_in_row` meets its contract: 2 ^ 1000 has 302 digits and 4 ^ 1000 has 603, so the first digit tells the row.
 use borrow.Author.Needs.{needs}
 use lib.Dec.{lit<, lit≤}
-use Rattle.level.proofs.Digits.{between-digits}
+use Rattle.level.proofs.Halving.{between-digits}
 use Rattle.level.proofs.place_in_row.Statement.{statement}
 use Rattle.level.proofs.place_in_row.Tie as tie
 

@@ -1,7 +1,7 @@
 -- `level::place_in_table` meets its contract: the table is a row from 0 on.
 use borrow.Author.Needs.{needs}
 use Rattle.power.proofs.Table.{table-row}
-use Rattle.level.proofs.Digits.{between-starts}
+use Rattle.level.proofs.Halving.{between-starts}
 use Rattle.level.proofs.place_in_table.Statement.{statement}
 use Rattle.level.proofs.place_in_table.Tie as tie
 
