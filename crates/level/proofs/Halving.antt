@@ -33,18 +33,19 @@ pub halving-starts : {digits low high turns : ℕ} → 1000 ≤ 2 ^ turns → Be
 halving-starts enough p = record { between = p; closes = omega (arith, p .end) }
 
 module _ {digits low high turns : ℕ} (p : Halving digits low high turns) (wide : low + 1 < high) where
-  -- a range of more than one place has a turn left, which leaves either half to the others
+  -- a range of more than one place has a turn left
   pub halving-left : 0 < turns
   halving-left = lt-of-not-le (λ l.
       let none : turns ≡ 0 = omega arith in
       omega (arith, rw (none, pow-zero) at p.closes))
 
+  -- the turns after it suffice for half of the range
   halves : high ≤ low + 2 ^ (turns - 1) * 2
   halves =
       let one : turns ≡ suc (turns - 1) = omega (arith, halving-left) in
       rw (one, pow-suc) at p.closes
 
-  -- the middle of the range, rounded down
+  -- the middle of the range, rounded down, leaves half of it on either side
   module _ {middle : ℕ} (least : low + high ≤ 2 * middle + 1) (most : 2 * middle ≤ low + high) where
     pub halving-up : m middle ≤ digits → Halving digits middle high (turns - 1)
     halving-up h =

@@ -15,6 +15,9 @@ use quantity::Reading;
 // The first mantissa, m(0).
 const UNIT: u64 = 1000000000;
 
+// The turns that close any range of the thousand mantissas, since each turn halves it: 2^10 is 1024.
+const MOST_TURNS: u32 = 10;
+
 // A number cut to its leading digits, and the number of decimal digits that were omitted.
 pub struct Leading {
     pub digits: u64,
@@ -29,11 +32,8 @@ fn is_reached(row: &[u64], from: u32, place: u32, digits: u64) -> bool
     row[(place - from) as usize] <= digits
 }
 
-// The turns that close any range of the thousand mantissas, since each turn halves it: 2^10 is 1024.
-const MOST_TURNS: u32 = 10;
-
-// The place of the largest mantissa that is at most the digits, which lies from first on and before end. The search stops when one place is left; that the
-// turns do not run out before is what the count of them shows.
+// The place of the largest mantissa that is at most the digits, which lies from first on and before end. The search stops when one place is left; the
+// count shows that the turns do not run out before.
 fn place_in(row: &[u64], from: u32, first: u32, end: u32, digits: u64) -> u32
     requires { ⌜ IsRow from (now row) × Between digits first end × (from ≤ first + 1) × (end ≤ from + length (now row)) ⌝ }
     ensures { λ r. ⌜ Found digits r ⌝ }
