@@ -12,6 +12,7 @@ use Rattle.level.proofs.leading_quotient.Tie as tie
 abbrev Inv-loop : tie.InvT-loop
 Inv-loop divisor quotient₀ omitted₀ quotient omitted = Reducing quotient₀ quotient omitted
 
+-- the turns left: a turn begins with 38 digits omitted at the most, and ends with 47
 abbrev μ-loop : tie.MeasureT-loop
 μ-loop divisor quotient₀ omitted₀ quotient omitted = (47 - omitted) / 9
 
