@@ -2,7 +2,7 @@
 use crate::{seconds, Random};
 
 extern "C" {
-    fn moatburdock_pair_movements(movements: *const u32, movement_count: usize, peaks: *const u32, peak_count: usize, tolerance: u32,
+    fn moatburdock_pair_movements(movements: *const i32, movement_count: usize, peaks: *const i32, peak_count: usize, tolerance: u32,
         movement_marks: *mut u16, movement_mark_count: usize, peak_marks: *mut u16, peak_mark_count: usize, pair_count: *mut u16) -> u8;
 }
 
@@ -10,7 +10,7 @@ const TOLERANCE: u32 = 60;
 
 /// Two rising lists, and a mark for each entry.
 struct Lists {
-    times: [Vec<u32>; 2],
+    times: [Vec<i32>; 2],
     marks: [Vec<u16>; 2],
 }
 
@@ -19,7 +19,7 @@ impl Lists {
     fn of(entries: usize) -> Lists {
         let mut random = Random(203);
         let times = [(); 2].map(|_| {
-            let mut times: Vec<u32> = (0..entries).map(|_| random.below(100 * entries as u64) as u32).collect();
+            let mut times: Vec<i32> = (0..entries).map(|_| random.below(100 * entries as u64) as i32).collect();
             times.sort_unstable();
             times
         });
@@ -38,7 +38,7 @@ impl Lists {
 
     fn plain(&mut self) -> Option<u16> {
         let ([movements, peaks], [movement_marks, peak_marks]) = (&self.times, &mut self.marks);
-        let fit = |times: &[u32], marks: &[u16]| times.len() <= 2000 && marks.len() == times.len() && times.windows(2).all(|two| two[0] <= two[1]);
+        let fit = |times: &[i32], marks: &[u16]| times.len() <= 2000 && marks.len() == times.len() && times.windows(2).all(|two| two[0] <= two[1]);
         if !fit(movements, movement_marks) || !fit(peaks, peak_marks) {
             return None;
         }

@@ -8,8 +8,9 @@ type Cell = u32;
 const CELLS: usize = 320;
 
 extern "C" {
-    fn moatburdock_open_day(day: *mut Cell, rate: u32, first: u32, last: u32, daytime: *const u16, classes: usize, night: *const u16, others: usize) -> u8;
-    fn moatburdock_offer(day: *mut Cell, start: u32, class: u8, wind: u16, wet: bool, background: u32, samples: *const u16, count: usize, exposure: *mut u32,
+    fn moatburdock_open_day(day: *mut Cell, rate: u32, first: u32, last: u32, end: i32, daytime: *const u16, classes: usize, night: *const u16,
+        others: usize) -> u8;
+    fn moatburdock_offer(day: *mut Cell, start: i32, class: u8, wind: u16, wet: bool, background: u32, samples: *const u16, count: usize, exposure: *mut u32,
         lmax: *mut u32) -> u8;
     fn moatburdock_close_day(day: *const Cell, before: u32, after: u32, record: *mut u64, counts: *mut u32, highest_by_class: *mut u32)
         -> u8;
@@ -27,7 +28,7 @@ impl Ledger for Day {
 
     fn open(daytime: &[u16], night: &[u16]) -> Self {
         let mut day = [0; CELLS];
-        unsafe { moatburdock_open_day(day.as_mut_ptr(), 10, 216000, 791999, daytime.as_ptr(), daytime.len(), night.as_ptr(), night.len()) };
+        unsafe { moatburdock_open_day(day.as_mut_ptr(), 10, 216000, 791999, -6000, daytime.as_ptr(), daytime.len(), night.as_ptr(), night.len()) };
         Day(day)
     }
 

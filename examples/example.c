@@ -1,5 +1,5 @@
-/* Opens a day, offers two fly-overs, closes it, forms a year of such days and its verdict, and holds the tower's log against the fly-overs. Built and
- * run by examples/run_c. */
+/* Opens a day, offers two fly-overs, closes it, forms a year of such days and its verdict, holds the tower's log against the fly-overs, and opens the next
+ * day, with a fly-over at midnight. Built and run by examples/run_c. */
 #include "moatburdock.h"
 
 #include <stdio.h>
@@ -13,11 +13,11 @@ static int failed(const char *call, uint8_t answer) {
 int main(void) {
     const uint16_t daytime[] = {1, 0}, night[] = {0, 1};
     const uint16_t samples[] = {6000, 8000, 8000, 8000, 6000};
-    const uint32_t starts[] = {432000, 800000};
+    const int32_t starts[] = {432000, 863997};
     uint32_t day[MOATBURDOCK_DAY_WORDS] = {0};
 
-    /* Ten samples a second, daytime from 06:00 to 22:00. */
-    if (failed("opening", moatburdock_open_day(day, 10, 216000, 791999, daytime, 2, night, 2)))
+    /* Ten samples a second, daytime from 06:00 to 22:00; nothing is known of a day before. */
+    if (failed("opening", moatburdock_open_day(day, 10, 216000, 791999, -6000, daytime, 2, night, 2)))
         return 1;
     for (uint8_t i = 0; i < 2; i++) {
         uint32_t exposure = 0, lmax = 0;
@@ -53,7 +53,7 @@ int main(void) {
     printf("the year: YLdn %u.%02u dB; class %u, finding %u, margin %d hundredths\n", mean / 100, mean % 100, land_class, finding, margin);
 
     /* The tower's log against the peaks of the two fly-overs, with five seconds of tolerance. */
-    const uint32_t movements[] = {431990, 432000, 799960}, peaks[] = {432001, 800001};
+    const int32_t movements[] = {431990, 432000, 863960}, peaks[] = {432001, 863998};
     uint16_t movement_marks[3] = {0}, peak_marks[2] = {0}, pairs = 0;
     if (failed("the pairing", moatburdock_pair_movements(movements, 3, peaks, 2, 50, movement_marks, 3, peak_marks, 2, &pairs)))
         return 1;
@@ -65,8 +65,19 @@ int main(void) {
             printf("movement %d: peak %u\n", i + 1, movement_marks[i]);
     }
 
-    uint32_t exposure = 0, lmax = 0;
-    printf("a day of 30 samples a second: refusal %u\n", moatburdock_open_day(day, 30, 216000, 791999, daytime, 2, night, 2));
+    /* The next day is opened with the end of this one. The same fly-over, its start counted from the new midnight, belongs to the day before; one that
+     * begins at that end is accepted. */
+    uint32_t next_day[MOATBURDOCK_DAY_WORDS] = {0}, exposure = 0, lmax = 0;
+    const int32_t end = moatburdock_end_for_next_day(day);
+    if (failed("opening the next day", moatburdock_open_day(next_day, 10, 216000, 791999, end, daytime, 2, night, 2)))
+        return 1;
+    printf("the next day is opened with the end %d\n", end);
+    printf("the fly-over at midnight again: refusal %u\n", moatburdock_offer(next_day, -3, 1, 30, false, 6000, samples, 5, &exposure, &lmax));
+    if (failed("the offer", moatburdock_offer(next_day, 0, 1, 30, false, 6000, samples, 5, &exposure, &lmax)))
+        return 1;
+    printf("a fly-over from that end on: LAE %u.%02u dB\n", exposure / 100, exposure % 100);
+
+    printf("a day of 30 samples a second: refusal %u\n", moatburdock_open_day(day, 30, 216000, 791999, -18000, daytime, 2, night, 2));
     printf("a second fly-over at noon: refusal %u\n", moatburdock_offer(day, 432000, 0, 30, false, 6000, samples, 5, &exposure, &lmax));
     return 0;
 }

@@ -1,13 +1,15 @@
-// Opens a day, offers two fly-overs, closes it, forms a year of such days, and holds the tower's log against the fly-overs. Built and run by
-// examples/run_rust.
+// Opens a day, offers two fly-overs, closes it, forms a year of such days, holds the tower's log against the fly-overs, and opens the next day, with a
+// fly-over at midnight. Built and run by examples/run_rust.
 #[link(name = "moatburdock", kind = "static")]
 extern "C" {
-    fn moatburdock_open_day(day: *mut u32, rate: u32, first: u32, last: u32, daytime: *const u16, classes: usize, night: *const u16, others: usize) -> u8;
-    fn moatburdock_offer(day: *mut u32, start: u32, class: u8, wind: u16, wet: bool, background: u32, samples: *const u16, count: usize,
+    fn moatburdock_open_day(day: *mut u32, rate: u32, first: u32, last: u32, end: i32, daytime: *const u16, classes: usize, night: *const u16,
+        others: usize) -> u8;
+    fn moatburdock_end_for_next_day(day: *const u32) -> i32;
+    fn moatburdock_offer(day: *mut u32, start: i32, class: u8, wind: u16, wet: bool, background: u32, samples: *const u16, count: usize,
         exposure: *mut u32, lmax: *mut u32) -> u8;
     fn moatburdock_close_day(day: *const u32, before: u32, after: u32, record: *mut u64, counts: *mut u32, highest_by_class: *mut u32) -> u8;
     fn moatburdock_year_mean(records: *const u64, count: usize, level: *mut u32) -> u8;
-    fn moatburdock_pair_movements(movements: *const u32, movement_count: usize, peaks: *const u32, peak_count: usize, tolerance: u32,
+    fn moatburdock_pair_movements(movements: *const i32, movement_count: usize, peaks: *const i32, peak_count: usize, tolerance: u32,
         movement_marks: *mut u16, movement_mark_count: usize, peak_marks: *mut u16, peak_mark_count: usize, pair_count: *mut u16) -> u8;
 }
 
@@ -20,21 +22,31 @@ fn checked(answer: u8) -> Result<(), Refused> {
 }
 
 /// The settings of a terminal: samples a second, and the first and the last daytime tick.
+#[derive(Clone, Copy)]
 struct Settings(u32, u32, u32);
 
 /// A day, in memory of its own.
 struct Day([u32; 320]);
 
 impl Day {
-    fn open(settings: Settings, daytime: &[u16], night: &[u16]) -> Result<Day, Refused> {
+    /// A day whose settings are those of the day before, if there is one: then it goes on where that one ends.
+    fn open(settings: Settings, before: Option<&Day>, daytime: &[u16], night: &[u16]) -> Result<Day, Refused> {
         let mut day = [0; 320];
         let Settings(rate, first, last) = settings;
-        checked(unsafe { moatburdock_open_day(day.as_mut_ptr(), rate, first, last, daytime.as_ptr(), daytime.len(), night.as_ptr(), night.len()) })?;
+        let end = before.map_or(-600 * rate as i32, Day::end_for_next_day);
+        checked(unsafe {
+            moatburdock_open_day(day.as_mut_ptr(), rate, first, last, end, daytime.as_ptr(), daytime.len(), night.as_ptr(), night.len())
+        })?;
         Ok(Day(day))
     }
 
+    /// The end of the last stretch, in ticks after the next midnight.
+    fn end_for_next_day(&self) -> i32 {
+        unsafe { moatburdock_end_for_next_day(self.0.as_ptr()) }
+    }
+
     /// LAE and Lmax of a fly-over.
-    fn offer(&mut self, start: u32, class: u8, samples: &[u16]) -> Result<(u32, u32), Refused> {
+    fn offer(&mut self, start: i32, class: u8, samples: &[u16]) -> Result<(u32, u32), Refused> {
         let (mut exposure, mut lmax) = (0, 0);
         checked(unsafe {
             moatburdock_offer(self.0.as_mut_ptr(), start, class, 30, false, 6000, samples.as_ptr(), samples.len(), &mut exposure, &mut lmax)
@@ -51,7 +63,7 @@ impl Day {
 }
 
 /// For each movement the peak that it is paired with, by its place from 1.
-fn paired(movements: &[u32], peaks: &[u32], tolerance: u32) -> Result<Vec<Option<u16>>, Refused> {
+fn paired(movements: &[i32], peaks: &[i32], tolerance: u32) -> Result<Vec<Option<u16>>, Refused> {
     let (mut movement_marks, mut peak_marks, mut pairs) = (vec![0; movements.len()], vec![0; peaks.len()], 0);
     checked(unsafe {
         moatburdock_pair_movements(movements.as_ptr(), movements.len(), peaks.as_ptr(), peaks.len(), tolerance, movement_marks.as_mut_ptr(),
@@ -63,8 +75,9 @@ fn paired(movements: &[u32], peaks: &[u32], tolerance: u32) -> Result<Vec<Option
 fn main() -> Result<(), Refused> {
     let samples = [6000, 8000, 8000, 8000, 6000];
     // Ten samples a second, daytime from 06:00 to 22:00.
-    let mut day = Day::open(Settings(10, 216000, 791999), &[1], &[1])?;
-    for start in [432000, 800000] {
+    let settings = Settings(10, 216000, 791999);
+    let mut day = Day::open(settings, None, &[1], &[1])?;
+    for start in [432000, 863997] {
         let (exposure, lmax) = day.offer(start, 0, &samples)?;
         println!("a fly-over at {}: LAE {:.2} dB, Lmax {:.2} dB", start, exposure as f64 / 100.0, lmax as f64 / 100.0);
     }
@@ -76,11 +89,18 @@ fn main() -> Result<(), Refused> {
     let mut mean = 0;
     checked(unsafe { moatburdock_year_mean([record; 365].as_ptr(), 365, &mut mean) })?;
     println!("a year of such days: YLdn {:.2} dB", mean as f64 / 100.0);
-    println!("the tower's movements and their peaks: {:?}", paired(&[431990, 432000, 799960], &[432001, 800001], 50)?);
-    if let Err(Refused(number)) = paired(&[432000, 431990], &[432001, 800001], 50) {
+    println!("the tower's movements and their peaks: {:?}", paired(&[431990, 432000, 863960], &[432001, 863998], 50)?);
+    if let Err(Refused(number)) = paired(&[432000, 431990], &[432001, 863998], 50) {
         println!("movements that are not in order: refusal {}", number);
     }
-    if let Err(Refused(number)) = Day::open(Settings(20, 432000, 1728000), &[1], &[1]) {
+    // The same fly-over, its start counted from the new midnight, belongs to the day before; one that begins at the end of that day is accepted.
+    let mut next_day = Day::open(settings, Some(&day), &[1], &[1])?;
+    println!("the next day is opened with the end {}", day.end_for_next_day());
+    if let Err(Refused(number)) = next_day.offer(-3, 0, &samples) {
+        println!("the fly-over at midnight again: refusal {}", number);
+    }
+    println!("a fly-over from that end on: LAE {:.2} dB", next_day.offer(0, 0, &samples)?.0 as f64 / 100.0);
+    if let Err(Refused(number)) = Day::open(Settings(20, 432000, 1728000), None, &[1], &[1]) {
         println!("a last daytime tick behind the day: refusal {}", number);
     }
     if let Err(Refused(number)) = day.offer(432000, 0, &samples) {

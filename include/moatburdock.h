@@ -4,13 +4,13 @@
  * nothing but memcpy and memset: all that it reads and writes is what it is lent here. An offer takes 11 kB of stack, and a step of the reader, which has a
  * room for the longest window of its own, 62 kB.
  *
- * Levels are hundredths of a decibel, wind tenths of m/s. Times are ticks after local midnight, and a tick is one sample: a tenth, a twentieth or a
- * fortieth of a second, by the rate with which a day is opened.
+ * Levels are hundredths of a decibel, wind tenths of m/s. Times are ticks after local midnight, negative before it, and a tick is one sample: a tenth, a
+ * twentieth or a fortieth of a second, by the rate with which a day is opened. A fly-over belongs to the day of its peak, whole.
  *
- * Every function but the two of the reader answers 0, or the number of the refusal. A refused call leaves all that it was lent as it was. Of the arguments
- * only this is required: pointers to as many elements as are stated, all of them initialised, and none that is written through overlaps another
- * argument of the call. Any words make a day; words that are all 0 make a day of no class, on which every offer is refused, by 1, 2 or 3, and every
- * closing by 11 or 12.
+ * Every function but moatburdock_end_for_next_day and the two of the reader answers 0, or the number of the refusal. A refused call leaves all that it was
+ * lent as it was. Of the arguments only this is required: pointers to as many elements as are stated, all of them initialised, and none that is written
+ * through overlaps another argument of the call. Any words make a day; words that are all 0 make a day of no class, on which every offer is refused, by 1, 2
+ * or 3, and every closing by 11 or 12.
  *
  * What each function computes is an equation that is proved for every argument: crates/c_interface/specs/Calls.antt, over the definitions of
  * crates/ledger, offering, closing, mean, land and pairing; of the reader crates/c_reader/specs/Calls.antt, over those of crates/steps. Of a pairing it is
@@ -46,13 +46,14 @@ extern "C" {
 /* Why a call is refused. */
 enum moatburdock_refusal {
     MOATBURDOCK_SAMPLE_COUNT = 1,       /* fewer than 3 samples, or more than 600 seconds of them */
-    MOATBURDOCK_WINDOW_PAST_DAY_END,    /* start + number of samples above the ticks of a day, 86400 times the rate */
+    MOATBURDOCK_OUTSIDE_DAY,            /* the peak, the first highest sample, lies before midnight or after the day's last tick, 86400 times the rate less 1;
+                                           or the window begins more than 600 seconds before midnight or ends more than 600 seconds after the day */
     MOATBURDOCK_CLASS_NOT_IN_BOOK,      /* the class is not in the book */
     MOATBURDOCK_LEVEL_TOO_HIGH,         /* a sample, the background or a verdict's Lmax above 14000 */
     MOATBURDOCK_WEATHER,                /* wet, or wind above 100 */
     MOATBURDOCK_BACKGROUND_TOO_NEAR,    /* Lmax less than 1500 above the background */
     MOATBURDOCK_STRETCH_CUT,            /* the stretch touches the first or the last sample */
-    MOATBURDOCK_STRETCH_OVERLAPS,       /* the stretch begins before the end of the last accepted one */
+    MOATBURDOCK_STRETCH_OVERLAPS,       /* the stretch begins before the end of the last accepted one, or before that of the day before */
     MOATBURDOCK_FLIGHTS_USED_UP,        /* as many events of that class and period are accepted as the book has flights */
     MOATBURDOCK_BOOK_INVALID,           /* not 1 to 16 classes, lists of unequal length, or more than 2000 flights */
     MOATBURDOCK_CALIBRATION_DRIFT,      /* the calibration levels differ by more than 50 */
@@ -76,16 +77,26 @@ enum moatburdock_finding {
     MOATBURDOCK_NO_LIMIT
 };
 
-/* Opens a day: the settings of its terminal, which are its samples a second (10, 20 or 40) and the first and the last daytime tick, both in; and the book,
- * for each class the flights by day and by night. At ten samples a second 06:00 to 22:00 is from tick 216000 to 791999. Refusals 18, then 10, which leave
- * the day as it was. */
+/* Opens a day: the settings of its terminal, which are its samples a second (10, 20 or 40) and the first and the last daytime tick, both in; the end of the
+ * last stretch of the day before, in ticks after the midnight of the day that is opened; and the book, for each class the flights by day and by night. At ten
+ * samples a second 06:00 to 22:00 is from tick 216000 to 791999. Refusals 18, then 10, which leave the day as it was.
+ *
+ * No stretch is accepted that begins before the end of the day before; any value is taken. Where there is no day before, or none is known of, pass -600 times
+ * the rate (-6000, -12000 or -24000). Else pass what moatburdock_end_for_next_day gives of the day before. That counts in ticks of its rate: where the rate has
+ * changed, multiply by the new rate and divide by the old one, rounding up, that is to the later tick. */
 uint8_t moatburdock_open_day(uint32_t day[MOATBURDOCK_DAY_WORDS], uint32_t rate, uint32_t first_daytime_tick, uint32_t last_daytime_tick,
-                             const uint16_t *daytime, size_t daytime_classes, const uint16_t *night, size_t night_classes);
+                             int32_t end_of_day_before, const uint16_t *daytime, size_t daytime_classes, const uint16_t *night, size_t night_classes);
 
-/* Offers a fly-over: a window of A-levels, one a tick, that begins at start. Accepted, it is added to the day, and the exposure level LAE (or
- * MOATBURDOCK_NOTHING) and Lmax are given. Refusals 1 to 9, the first in their order that holds. */
-uint8_t moatburdock_offer(uint32_t day[MOATBURDOCK_DAY_WORDS], uint32_t start, uint8_t flight_class, uint16_t wind, bool wet, uint32_t background,
+/* Offers a fly-over: a window of A-levels, one a tick, that begins at start. Its peak is in the day; the window may begin before midnight and end after the
+ * day. Accepted, it is added to the day, and the exposure level LAE (or MOATBURDOCK_NOTHING) and Lmax are given. Refusals 1 to 9, the first in their order
+ * that holds. */
+uint8_t moatburdock_offer(uint32_t day[MOATBURDOCK_DAY_WORDS], int32_t start, uint8_t flight_class, uint16_t wind, bool wet, uint32_t background,
                           const uint16_t *samples, size_t sample_count, uint32_t *exposure, uint32_t *lmax);
+
+/* The end to open the next day with: that of the day's last accepted stretch, in ticks after the next midnight, or -600 times the rate where no fly-over is
+ * accepted. Never refused: what is answered is the end itself. The day is read and not changed. With it no stretch of one day overlaps a stretch of the next,
+ * so that a fly-over at midnight is counted in one of them alone. Ask once no more offers to the day are to come. */
+int32_t moatburdock_end_for_next_day(const uint32_t day[MOATBURDOCK_DAY_WORDS]);
 
 /* Closes a day, with the calibration levels before and after it: gives the day's record (Ldn and its method), in counts the events by day, those by
  * night, and the highest Lmax (or MOATBURDOCK_NOTHING), and the highest Lmax of each class (or MOATBURDOCK_NOTHING; so for every class beyond the book).
@@ -110,10 +121,10 @@ uint8_t moatburdock_verdict(uint8_t land_class, uint32_t yearly, bool sensitive,
 uint8_t moatburdock_land_class(uint8_t letter, uint8_t digit, uint8_t *land_class);
 
 /* Pairs the movements of the tower's log with the peaks of events: two lists of times that do not fall, equal neighbours allowed, and a tolerance, all in
- * ticks. No pair is further apart than the tolerance, no entry is used twice, and no pairing under that rule has more pairs; which of several largest ones
- * is given is left free. Gives their count, and for each entry a mark: its partner's place counted from 1, or 0 where it is unpaired. As many marks are
- * lent as each list has entries. Refusal 19, which leaves the marks and the count as they were. */
-uint8_t moatburdock_pair_movements(const uint32_t *movements, size_t movement_count, const uint32_t *peaks, size_t peak_count, uint32_t tolerance,
+ * ticks, the times negative before midnight. No pair is further apart than the tolerance, no entry is used twice, and no pairing under that rule has more
+ * pairs; which of several largest ones is given is left free. Gives their count, and for each entry a mark: its partner's place counted from 1, or 0 where
+ * it is unpaired. As many marks are lent as each list has entries. Refusal 19, which leaves the marks and the count as they were. */
+uint8_t moatburdock_pair_movements(const int32_t *movements, size_t movement_count, const int32_t *peaks, size_t peak_count, uint32_t tolerance,
                                    uint16_t *movement_marks, size_t movement_mark_count, uint16_t *peak_marks, size_t peak_mark_count, uint16_t *pair_count);
 
 /* The reader of day files, from any transport and in whatever pieces the file comes. */

@@ -1,12 +1,13 @@
-"""The layout of a day file (document 01, 'Day file', with the settings of document 02, W-202), in one place: each section as bytes, and the sections of some bytes. All numbers are little-endian."""
+"""The layout of a day file (document 01, 'Day file', with the settings of document 02, W-202 and W-205), in one place: each section as bytes, and the
+sections of some bytes. All numbers are little-endian; those of times around midnight are signed."""
 import struct
 from collections import namedtuple
 
-SETTINGS = '<BBII'       # count byte 1, samples a second, first and last daytime tick
+SETTINGS = '<BBIIi'      # count byte 1, samples a second, first and last daytime tick, end of the previous day's last stretch
 ENTRY = '<HH'            # of the book: flights by day, flights by night
 CALIBRATION = '<BHH'     # count byte 2, level before, level after
 COUNT = '<H'             # of the events
-FIELDS = '<IBHBHH'       # of an event: start, class, wind, wet, background, number of samples
+FIELDS = '<iBHBHH'       # of an event: start, class, wind, wet, background, number of samples
 LONGEST_WINDOW = 600     # seconds of samples
 BEFORE = (10, 216000, 791999)  # the settings of document 01: ten samples a second, daytime from 06:00 to 22:00
 
@@ -21,8 +22,14 @@ class Fault(Exception):
         self.number = number
 
 
-def settings(rate=BEFORE[0], first=BEFORE[1], last=BEFORE[2], count=1):
-    return struct.pack(SETTINGS, count, rate, first, last)
+def no_end(rate):
+    """the end to open a day with where the day before has no stretch: 600 seconds before midnight"""
+    return -600 * rate
+
+
+def settings(rate=BEFORE[0], first=BEFORE[1], last=BEFORE[2], end=None, count=1):
+    """end: that of the previous day's last stretch, None where there is none"""
+    return struct.pack(SETTINGS, count, rate, first, last, no_end(rate) if end is None else end)
 
 
 def book(flights):
@@ -46,7 +53,7 @@ def events(records, announced=None):
 
 
 def sections(data):
-    """The sections of a file in their order, each as soon as it is read: ('settings', (rate, first, last)), ('book', flights), ('calibration',
+    """The sections of a file in their order, each as soon as it is read: ('settings', (rate, first, last, end)), ('book', flights), ('calibration',
     (before, after)) and ('event', Event) for each event. Raises the Fault of a faulty file where it is met; settings that no terminal has and a book with too
     many flights are no fault of the layout."""
     at = 0
@@ -60,10 +67,10 @@ def sections(data):
         at += size
         return values
 
-    count, rate, first, last = take(SETTINGS)
+    count, rate, *rest = take(SETTINGS)
     if count != 1:
         raise Fault(16, 'the settings have the count %d' % count)
-    yield 'settings', (rate, first, last)
+    yield 'settings', (rate, *rest)
     classes, = take('<B')
     if not 1 <= classes <= 16:
         raise Fault(10, 'the book has %d classes' % classes)

@@ -4,7 +4,7 @@ noise.py.
     LABEL: CALL WORDS = ANSWER      answers that are right are separated by '|', and one that is plausible and wrong stands behind ', not'
     TEXT                            a line without ':' is a heading
 
-In a call 8000*3 stands for 8000 8000 8000."""
+In a call 8000*3 stands for 8000 8000 8000, and -6000 for that number in 32 bits, two's complement."""
 import re
 from collections import namedtuple
 
@@ -22,7 +22,12 @@ Call = namedtuple('Call', 'label name numbers slash stated answers')
 
 def expanded(text):
     """a text with each 8000*3 written out"""
-    return re.sub(r'(\d+|-)\*(\d+)', lambda m: ' '.join([m[1]] * int(m[2])), text)
+    return re.sub(r'(-?\d+|-)\*(\d+)', lambda m: ' '.join([m[1]] * int(m[2])), text)
+
+
+def signed(n):
+    """the number of 32 bits, two's complement"""
+    return n if n < 2 ** 31 else n - 2 ** 32
 
 
 def parsed(line):
@@ -33,7 +38,7 @@ def parsed(line):
     call, _, stated = rest.partition('=')
     name, *words = expanded(call).split()
     slash = words.index('/') if '/' in words else 0
-    numbers = [None if w == '-' else int(w) for w in words if w != '/']
+    numbers = [None if w == '-' else int(w) % 2 ** 32 for w in words if w != '/']
     return Call(label, name, numbers, slash, stated, [a.strip() for a in stated.split(',')[0].split('|')])
 
 
@@ -54,8 +59,16 @@ class Replay:
         settings = [NOTHING if n is None else n for n in call.numbers[:3]]
         return self.opened(call.numbers[3:call.slash], call.numbers[call.slash:], settings)
 
+    def after(self, call):
+        end, *settings = call.numbers[:4]
+        return self.opened(call.numbers[4:call.slash], call.numbers[call.slash:], settings, signed(end))
+
+    def next(self, call):
+        return ['A %d' % self.day.next_end()]
+
     def offer(self, call):
-        return self.day.offer_answers(*call.numbers[:5], call.numbers[5:])
+        start, *rest = call.numbers[:5]
+        return self.day.offer_answers(signed(start), *rest, call.numbers[5:])
 
     def close(self, call):
         return self.day.close_answers(*call.numbers)
@@ -80,8 +93,9 @@ class Replay:
         return [noise.land_answer(*call.numbers)]
 
     def pair(self, call):
-        tolerance, movement_marks, peak_marks = call.numbers[:3]
-        return pairings.answers(call.numbers[3:call.slash], call.numbers[call.slash:], tolerance, movement_marks, peak_marks)
+        tolerance, movement_marks, peak_marks, *times = call.numbers
+        times = list(map(signed, times))
+        return pairings.answers(times[:call.slash - 3], times[call.slash - 3:], tolerance, movement_marks, peak_marks)
 
     def answers(self, call):
         """the answers that are right for the next call, the exact one first"""

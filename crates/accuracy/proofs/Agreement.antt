@@ -18,7 +18,6 @@ use Rattle.quantity.proofs.Lists.{zero-at}
 use Rattle.power.specs.Power.{e}
 use Rattle.limbs.specs.Value.{value, limbsOf}
 use Rattle.limbs.proofs.Digits.{value-limbsOf-whole}
-use Rattle.clock.specs.Clock.{dayTicks}
 use Rattle.event.specs.Window.{highest}
 use Rattle.ledger.specs.Book.{mostClasses, sumOf, padded}
 use Rattle.ledger.specs.Day.{noneByClass, Opening, openRules, openedDay, periodOf}
@@ -27,8 +26,9 @@ use Rattle.ledger.specs.declared.Period.{Period}
 use Rattle.ledger.specs.declared.ClassHighest.{ClassHighest}
 use Rattle.ledger.specs.declared.Day.{Day}
 use Rattle.accuracy.specs.Tally.{Held, Tally, bookOf, started}
-use Rattle.accuracy.specs.Laws.{Apart, periodEnergy}
+use Rattle.accuracy.specs.Laws.{Apart, WithinReach, periodEnergy}
 use Rattle.quantity.proofs.Tests.{neither}
+use Rattle.accuracy.proofs.Held.{lastEnd, last-within}
 use Rattle.accuracy.proofs.Lists.{padded-at, padded-sum, padded-zeros}
 use Rattle.accuracy.proofs.Sums.{heldEnergy, period-part, day-fits}
 
@@ -59,13 +59,18 @@ dayOfTally t =
       «highest_by_class» = classesOfStretches (t .stretches);
     }
 
+-- an end is that of the last stretch
+abbrev pub EndsWith : ℕ → List Held → Type 0
+EndsWith end [] = Unit
+EndsWith end (h ∷ hs) = h .to ≡ end
+
 -- each stretch is of one of the first n classes
 abbrev pub OfFirst : ℕ → List Held → Type 0
 OfFirst n [] = Unit
 OfFirst n (h ∷ hs) = (h .class < n) × OfFirst n hs
 
--- the bounds of a tally: 1 to 16 classes, no count passes the book, the stretches are of its classes and lie apart and within the day, and their
--- energy is at most that of a sample of the highest level at each instant up to the end
+-- the bounds of a tally: 1 to 16 classes, no count passes the book, the stretches are of its classes and lie apart and within reach of the day, and their
+-- energy is at most that of a sample of the highest level at each instant up to the last of them
 pub record Bounded (t : Tally) : Type 0 where
   pub some : 1 ≤ length (t .book true)
   pub most : length (t .book true) ≤ mostClasses
@@ -73,9 +78,10 @@ pub record Bounded (t : Tally) : Type 0 where
   pub counted : (p : Bool) → length (t .count p) ≡ length (t .book true)
   pub counts : (p : Bool) (class : ℕ) → getD (t .count p) class 0 ≤ getD (t .book p) class 0
   pub classes : OfFirst (length (t .book true)) (t .stretches)
-  pub day : t .end ≤ dayTicks (t .settings .rate)
+  pub within : WithinReach (t .settings .rate) (t .stretches)
+  pub last : EndsWith (t .end) (t .stretches)
   pub apart : Apart (t .end) (t .stretches)
-  pub energy : heldEnergy (t .stretches) ≤ e highestSample * t .end
+  pub energy : heldEnergy (t .stretches) ≤ e highestSample * lastEnd (t .stretches)
 
 pub record Agrees (t : Tally) (day : Day) : Type 0 where
   pub same : day ≡ dayOfTally t
@@ -108,7 +114,9 @@ module _ {t : Tally} (b : Bounded t) (p : Bool) where
   pub sum-whole : value (limbsOf 4 (periodEnergy p (t .stretches))) ≡ periodEnergy p (t .stretches)
   sum-whole =
       let S = periodEnergy p (t .stretches) in
-      value-limbsOf-whole 4 S (day-fits (t .settings .rate) S (t .end) (le-trans (period-part p (t .stretches)) (b .energy)) (b .day))
+      let rate = t .settings .rate in
+      value-limbsOf-whole 4 S
+      (day-fits rate S (lastEnd (t .stretches)) (le-trans (period-part p (t .stretches)) (b .energy)) (last-within rate (t .stretches) (b .within)))
 
 -- the fresh day
 book-even : (daytime night : List ℕ) → length daytime ≡ length night → (p : Bool) → length (bookOf daytime night p) ≡ length daytime
@@ -133,7 +141,8 @@ fresh o h =
             counted = λ p. length-replicate n 0;
             counts = λ p class. rw (zero-at n class) zero-le;
             classes = tt;
-            day = zero-le;
+            within = tt;
+            last = tt;
             apart = tt;
             energy = zero-le;
           };

@@ -46,7 +46,7 @@ pub settings-kept : SettingsKept
 settings-kept o h calls = ap (λ (day : Day). day .settings) (agree o h calls .same) ∙ settings-in-tally (started o) calls
 
 -- so what holds of a bounded tally and the day that it gives holds always
-always : (P : Tally → Day → Type 0) → ((t : Tally) → Bounded t → P t (dayOfTally t)) → Always P
+pub always : (P : Tally → Day → Type 0) → ((t : Tally) → Bounded t → P t (dayOfTally t)) → Always P
 always P holds o h calls =
     let a = agree o h calls in
     subst (P (tallyOf (started o) calls)) (sym (a .same)) (holds _ (a .bounded))

@@ -1,4 +1,4 @@
--- The proof of demand 3, from laws on tests and lists to the whole claim.
+-- The proof of demand 3, from laws on tests and lists to the whole claim; days in a row; and what stayed as it was.
 pub mod Tests
 pub mod Lists
 pub mod Sums
@@ -11,3 +11,5 @@ pub mod Closings
 pub mod Claim
 pub mod Means
 pub mod Before
+pub mod NextDay
+pub mod Midnight

@@ -26,54 +26,51 @@ use Rattle.level.proofs.Bounds.{exact-low, reaches}
 use Rattle.clock.specs.Clock.{dayTicks}
 use Rattle.clock.specs.declared.Rate.{Rate}
 use Rattle.clock.specs.declared.Rate.the-variants.{Ten, Twenty, Forty}
-use Rattle.clock.proofs.Rates.{ticks-positive}
-use Rattle.ledger.specs.Day.{openedDay}
+use Rattle.clock.proofs.Rates.{rate-least, ticks-positive}
 use Rattle.ledger.specs.declared.Day.{Day}
 use Rattle.closing.specs.Formula.{formulaOne}
 use Rattle.closing.specs.Close.{Closing, closeRules, closed}
 use Rattle.mean.specs.Mean.{isTooHigh, isCountWrong, anyTooHigh, powerOf, sumOfPowers, meanOf, meanRules}
 use Rattle.mean.specs.Records.{readings, DayReading}
-use Rattle.accuracy.specs.Tally.{Tally, Held, started, tallyOf, tallyCounts, heldSamples}
-use Rattle.accuracy.specs.Terminal.{dayAfterCalls}
-use Rattle.accuracy.specs.Means.{ClosedDay, Measured, Quiet, rateIn, rateWeight, meanWeight, meanTicks, heldIn, recordsOf, daySamples, samplesOf, MeanAccurate, MeanDemanded, MeanClaim, QuietLaw, Demand3}
+use Rattle.accuracy.specs.Tally.{Held, started, tallyCounts, heldSamples}
+use Rattle.accuracy.specs.Terminal.{dayOf, tallyIn, heldIn, rateIn}
+use Rattle.accuracy.specs.Means.{ClosedDay, Measured, Quiet, rateWeight, meanWeight, meanTicks, recordsOf, daySamples, samplesOf, MeanAccurate, MeanDemanded, MeanClaim, QuietLaw, Demand3}
 use Rattle.accuracy.proofs.Sums.{weighted-held, weighted-append, heldEnergy}
 use Rattle.accuracy.proofs.Agreement.{Agrees}
 use Rattle.accuracy.proofs.Closings.{tallyAnswer, closed-same}
-use Rattle.accuracy.specs.Laws.{periodEnergy}
+use Rattle.accuracy.specs.Laws.{WithinReach, periodEnergy}
+use Rattle.accuracy.proofs.Held.{lastEnd, last-within}
 use Rattle.accuracy.proofs.Claim.{agree, settings-in-tally, claim}
 
 -- one day
 
-abbrev tallyIn : ClosedDay → Tally
-tallyIn d = tallyOf (started (d .opening)) (d .calls)
-
-agrees : (d : ClosedDay) → Agrees (tallyIn d) (dayAfterCalls (openedDay (d .opening)) (d .calls))
-agrees d = agree (d .opening) (d .opens) (d .calls)
+agrees : (d : ClosedDay) → Agrees (tallyIn (d .day)) (dayOf (d .day))
+agrees d = agree (d .day .opening) (d .day .opens) (d .day .calls)
 
 -- its energy with the weights of method one
 abbrev dayEnergy : ClosedDay → ℕ
-dayEnergy d = formulaOne (rateIn d) .daytime * periodEnergy true (heldIn d) + formulaOne (rateIn d) .night * periodEnergy false (heldIn d)
+dayEnergy d = formulaOne (rateIn (d .day)) .daytime * periodEnergy true (heldIn (d .day)) + formulaOne (rateIn (d .day)) .night * periodEnergy false (heldIn (d .day))
 
 -- the level of a measured day is that of this energy
-day-level : (d : ClosedDay) (m : Measured d) → levelOf 0 (dayTicks (rateIn d)) (dayEnergy d) ≡ level (m .ldn)
+day-level : (d : ClosedDay) (m : Measured d) → levelOf 0 (dayTicks (rateIn (d .day))) (dayEnergy d) ≡ level (m .ldn)
 day-level d m =
     let a = agrees d in
-    let t = tallyIn d in
+    let t = tallyIn (d .day) in
     let n = firstOf (closeRules (d .before) (d .after) (tallyCounts t)) in
     let same : tallyAnswer t n ≡ given (d .closing) =
     sym (closed-same (a .bounded) (d .before) (d .after)) ∙ ap (λ (day : Day). closed day (d .before) (d .after)) (sym (a .same)) ∙ d .closes in
     let c = given-value n same .1 in
-    rw (ap (λ (x : Closing). x .method) c ∙ m .byMethodOne, settings-in-tally (started (d .opening)) (d .calls)) at
+    rw (ap (λ (x : Closing). x .method) c ∙ m .byMethodOne, settings-in-tally (started (d .day .opening)) (d .day .calls)) at
     (ap (λ (x : Closing). x .ldn) c ∙ m .onScale)
 
 module _ (d : ClosedDay) (m : Measured d) where
-  bounds : Answers 0 (dayTicks (rateIn d)) (dayEnergy d) (level (m .ldn))
-  bounds = said 0 (dayTicks (rateIn d)) (dayEnergy d) (ticks-positive (rateIn d)) (day-level d m)
+  bounds : Answers 0 (dayTicks (rateIn (d .day))) (dayEnergy d) (level (m .ldn))
+  bounds = said 0 (dayTicks (rateIn (d .day))) (dayEnergy d) (ticks-positive (rateIn (d .day))) (day-level d m)
 
-  day-reaches : dayTicks (rateIn d) * e (m .ldn) ≤ dayEnergy d
+  day-reaches : dayTicks (rateIn (d .day)) * e (m .ldn) ≤ dayEnergy d
   day-reaches = (simp add-zero at bounds) .0
 
-  day-below : dayEnergy d < dayTicks (rateIn d) * e (m .ldn + 1)
+  day-below : dayEnergy d < dayTicks (rateIn (d .day)) * e (m .ldn + 1)
   day-below = (simp add-zero at bounds) .1
 
 -- in a mean a day of any rate counts as one of the fastest
@@ -85,8 +82,8 @@ as-fastest Forty = refl
 raised-ticks : (rate : Rate) (n : ℕ) → rateWeight rate * (dayTicks rate * n) ≡ meanTicks * n
 raised-ticks rate n = sym (mul-assoc (rateWeight rate) (dayTicks rate) n) ∙ ap (λ (k : ℕ). k * n) (as-fastest rate)
 
-raised-energy : (d : ClosedDay) → weighted e (daySamples d) ≡ rateWeight (rateIn d) * dayEnergy d
-raised-energy d = weighted-held (meanWeight (rateIn d)) (heldIn d) ∙ omega arith
+raised-energy : (d : ClosedDay) → weighted e (daySamples d) ≡ rateWeight (rateIn (d .day)) * dayEnergy d
+raised-energy d = weighted-held (meanWeight (rateIn (d .day))) (heldIn (d .day)) ∙ omega arith
 
 -- what a reading adds to a sum of g over levels
 abbrev at : (ℕ → ℕ) → Reading → ℕ
@@ -101,21 +98,21 @@ reached-day : (d : ClosedDay) → Stands d → meanTicks * at e (d .closing .ldn
 reached-day d =
     ⊎-elim
     (λ m.
-    let q = rateWeight (rateIn d) in
-    omega (arith, ap (at e) (m .onScale), raised-energy d, raised-ticks (rateIn d) (e (m .ldn)), mul-le-mul-left q (day-reaches d m)))
+    let q = rateWeight (rateIn (d .day)) in
+    omega (arith, ap (at e) (m .onScale), raised-energy d, raised-ticks (rateIn (d .day)) (e (m .ldn)), mul-le-mul-left q (day-reaches d m)))
     (λ q. omega (arith, ap (at e) (q .belowScale)))
 
 no-samples : (d : ClosedDay) → Quiet d → weighted e (daySamples d) ≡ 0
 unfolding weighted
-no-samples d q = ap (λ (hs : List Held). weighted e (heldSamples (meanWeight (rateIn d)) hs)) (q .none)
+no-samples d q = ap (λ (hs : List Held). weighted e (heldSamples (meanWeight (rateIn (d .day))) hs)) (q .none)
 
 held-day : (d : ClosedDay) → Stands d → weighted e (daySamples d) ≤ meanTicks * at (λ c. e (c + 1)) (d .closing .ldn)
 held-day d =
     ⊎-elim
     (λ m.
-    let q = rateWeight (rateIn d) in
+    let q = rateWeight (rateIn (d .day)) in
     let next : at (λ c. e (c + 1)) (d .closing .ldn) ≡ e (m .ldn + 1) = ap (at (λ c. e (c + 1))) (m .onScale) in
-    omega (arith, raised-energy d, raised-ticks (rateIn d) (e (m .ldn + 1)), mul-le-mul-left q (le-of-lt (day-below d m))))
+    omega (arith, raised-energy d, raised-ticks (rateIn (d .day)) (e (m .ldn + 1)), mul-le-mul-left q (le-of-lt (day-below d m))))
     (λ q. omega (arith, no-samples d q))
 
 step-day : (r : Reading) → at (λ c. e (c + 1)) r * (G * G) ≤ at e r * ((G + 1) * 1002305239)
@@ -211,17 +208,25 @@ mean-accurate K days all some = go (levelOf 0 (length days) (levels e days)) (an
 
 -- the claim
 
+-- the last stretch of a day ends by an instant of no more than 10^4 days
+last-low : (d : ClosedDay) → lastEnd (heldIn (d .day)) ≤ 10 ^ 4 * dayTicks (rateIn (d .day))
+last-low d =
+    let rate = rateIn (d .day) in
+    let within : WithinReach rate (heldIn (d .day)) = rw (settings-in-tally (started (d .day .opening)) (d .day .calls)) at (agrees d .bounded .within) in
+    omega (arith, last-within rate (heldIn (d .day)) within, rate-least rate)
+
 -- no day's level is too high for a mean
 low-level : (d : ClosedDay) (m : Measured d) → m .ldn ≤ highestDayLevel
 low-level d m =
-    let b = agrees d .bounded in
-    let ticks = dayTicks (rateIn d) in
+    let rate = rateIn (d .day) in
+    let ticks = dayTicks rate in
+    let last = lastEnd (heldIn (d .day)) in
     let top : e highestSample ≡ G * 10 ^ 14 = rw m-zero at (e-at 14 0 zero-le) in
     let far : e 20000 ≡ G * 10 ^ 20 = rw m-zero at (e-at 20 0 zero-le) in
-    let energy : heldEnergy (heldIn d) ≤ G * 10 ^ 14 * tallyIn d .end = rw top at (b .energy) in
-    let room : tallyIn d .end ≤ ticks = rw (settings-in-tally (started (d .opening)) (d .calls)) at (b .day) in
+    let energy : heldEnergy (heldIn (d .day)) ≤ G * 10 ^ 14 * last = rw top at (agrees d .bounded .energy) in
+    let within : last ≤ 10 ^ 4 * ticks = last-low d in
     let below : m .ldn < highestDayLevel + 1 =
-    lt-of-not-le (λ l. omega (arith, day-reaches d m, ticks-positive (rateIn d), rw far at (mul-le-mul-left ticks (e-mono {c = 20000} {d = m .ldn} (omega arith))))) in
+    lt-of-not-le (λ l. omega (arith, day-reaches d m, ticks-positive rate, rw far at (mul-le-mul-left ticks (e-mono {c = 20000} {d = m .ldn} (omega arith))))) in
     omega arith
 
 fits-record : (d : ClosedDay) → Stands d → isTooHigh (d .closing .ldn) ≡ false

@@ -1,7 +1,7 @@
 -- An offer: day and tally refuse it by the same number, or both take it in and agree again; and what is demanded of the answer.
 use mathlib.Core.Path.{_≡_, refl, sym, ap, _∙_}
 use mathlib.Core.Bool.{Bool, true, false}
-use mathlib.Core.List.{List, [], _∷_}
+use mathlib.Core.List.{List, _∷_}
 use Prim.Native.Nat.{ℕ, zero, suc, _+_, _≤_, _<_}
 use native.Mathlib.Nat.{add-comm, zero-add, le-refl, le-trans, mul-le-mul-left}
 use native.Mathlib.Omega.{arith}
@@ -30,8 +30,9 @@ use Rattle.ledger.specs.declared.ClassHighest.{ClassHighest}
 use Rattle.ledger.specs.declared.Day.{Day}
 use Rattle.accuracy.specs.Tally.{offering, Held, Tally, tallied, joined, periodIn, countRaised, sameAs, tallyChecks}
 use Rattle.accuracy.specs.Demand.{OfferDemanded}
-use Rattle.accuracy.specs.Laws.{Apart, periodEnergy}
+use Rattle.accuracy.specs.Laws.{periodEnergy}
 use Rattle.accuracy.proofs.Tests.{cond-both, first-limit, reached-equal}
+use Rattle.accuracy.proofs.Held.{last-by, apart-later}
 use Rattle.accuracy.proofs.Lists.{padded-set, raised-within}
 use Rattle.accuracy.proofs.Sums.{held-more}
 use Rattle.accuracy.proofs.Windows.{highest-stretch, stretch-energy, Admitted, admits}
@@ -114,10 +115,6 @@ module _ {t : Tally} (b : Bounded t) (class : ℕ) (booked : class < length (t .
   counted-within false g true = b .counts true
   counted-within false g false = raised-count false g
 
-apart-later : {a c : ℕ} (hs : List Held) → a ≤ c → Apart a hs → Apart c hs
-apart-later [] l p = tt
-apart-later (h ∷ hs) l p = (le-trans (p .0) l, p .1, p .2)
-
 -- an offer that no rule of the tally refuses
 module _ {t : Tally} (b : Bounded t) (o : Offering) (free : firstOf (tallyChecks t o) ≡ 0) where
   admission : Admitted (t .settings .rate) o
@@ -153,11 +150,12 @@ module _ {t : Tally} (b : Bounded t) (o : Offering) (free : firstOf (tallyChecks
         counted = counted-length b class in-book p;
         counts = counted-within b class in-book p room;
         classes = (in-book, b .classes);
-        day = omega (arith, in-window s, a .past);
+        within = ((omega (arith, a .inside .begins), omega (arith, in-window s, a .inside .ends)), b .within);
+        last = refl;
         apart = (le-refl _, omega arith, apart-later (t .stretches) (a .after) (b .apart));
         energy =
             rw held-more
-            (omega (arith, b .energy, mul-le-mul-left (e highestSample) (a .after), stretch-energy highestSample s (a .level)));
+            (omega (arith, b .energy, mul-le-mul-left (e highestSample) (le-trans (last-by (t .stretches) (b .apart)) (a .after)), stretch-energy highestSample s (a .level)));
       }
 
 -- what comes of an offer, by the number that the tally's rules give

@@ -11,9 +11,9 @@ use Rattle.power.specs.Power.{e, G}
 use Rattle.power.proofs.Scale.{e-at, m-zero}
 use Rattle.limbs.specs.Value.{base}
 use Rattle.level.specs.Accuracy.{Sample, weighted, weigh}
-use Rattle.clock.specs.Clock.{dayTicks}
+use Rattle.clock.specs.Clock.{latestEnd}
 use Rattle.clock.specs.declared.Rate.{Rate}
-use Rattle.clock.proofs.Rates.{ticks-most}
+use Rattle.clock.proofs.Rates.{latest-most}
 use Rattle.decades.specs.Decades.{energies}
 use Rattle.exposure.proofs.Accuracy.{weighted-energies}
 use Rattle.accuracy.specs.Tally.{Held, sameAs, heldSamples}
@@ -50,8 +50,8 @@ pub period-part : (p : Bool) (hs : List Held) → periodEnergy p hs ≤ heldEner
 period-part true hs = omega arith
 period-part false hs = omega arith
 
--- a day of samples at the highest level has less energy than four limbs hold
-pub day-fits : (rate : Rate) (S end : ℕ) → S ≤ e highestSample * end → end ≤ dayTicks rate → S < base ^ 4
+-- samples at the highest level up to the latest end of a window have less energy than four limbs hold
+pub day-fits : (rate : Rate) (S end : ℕ) → S ≤ e highestSample * end → end ≤ latestEnd rate → S < base ^ 4
 day-fits rate S end h l =
     let top : e highestSample ≡ G * 10 ^ 14 = rw m-zero at (e-at 14 0 zero-le) in
-    lt-of-le-of-lt (le-trans h (mul-le-mul-left (e highestSample) (le-trans l (ticks-most rate)))) (rw top (lit< tt))
+    lt-of-le-of-lt (le-trans h (mul-le-mul-left (e highestSample) (le-trans l (latest-most rate)))) (rw top (lit< tt))

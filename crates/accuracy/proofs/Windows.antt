@@ -14,8 +14,9 @@ use Rattle.quantity.specs.Limits.{highestSample}
 use Rattle.quantity.specs.Rules.{firstOf}
 use Rattle.quantity.proofs.Refusing.{pass}
 use Rattle.power.specs.Power.{e}
-use Rattle.clock.specs.Clock.{dayTicks, shortestWindow, longestWindow}
+use Rattle.clock.specs.Clock.{shortestWindow, longestWindow}
 use Rattle.clock.specs.declared.Rate.{Rate}
+use Rattle.clock.proofs.Inside.{Inside, inside}
 use Rattle.event.specs.Window.{highest, peakOf, anyAbove}
 use Rattle.event.specs.Stretch.{stretchFirst, stretchEnd, stretchOf}
 use Rattle.decades.specs.Decades.{energies}
@@ -48,7 +49,7 @@ stretch-energy c s h =
 -- what no refusal says of an offer: 1 and 2, 3, 4, 8 and 9
 pub record Admitted (rate : Rate) (o : Offering) (unbooked : Bool) (end : ℕ) (used : Bool) : Type 0 where
   pub some : 0 < length (o .samples)
-  pub past : o .recording .start .0 + length (o .samples) ≤ dayTicks rate
+  pub inside : Inside rate (o .recording .start .0) (peakOf (o .samples)) (length (o .samples))
   pub booked : unbooked ≡ false
   pub level : highest (o .samples) ≤ highestSample
   pub after : end ≤ o .recording .start .0 + stretchFirst (o .samples)
@@ -64,7 +65,7 @@ admits rate o unbooked end used h =
     let high = neither (anyAbove highestSample (o .samples)) (ltb highestSample (c .background .0)) (p .1 .1 .1 .0) in
     record {
       some = omega (arith, ltb-false n shortestWindow (count .0));
-      past = ltb-false (dayTicks rate) (c .start .0 + n) (p .1 .0);
+      inside = inside rate (c .start .0) (peakOf (o .samples)) n (p .1 .0);
       booked = p .1 .1 .0;
       level = ltb-false highestSample (highest (o .samples)) (sym (any-above highestSample (o .samples)) ∙ high .0);
       after = ltb-false (c .start .0 + stretchFirst (o .samples)) end (p .1 .1 .1 .1 .1 .1 .1 .0);

@@ -1,11 +1,12 @@
--- Document 02, W-202: at rate 10 with ticks 216000 and 791999 every answer is the one before this request. Here stands what a call answers by, with the
--- numbers of document 01 written out: such a day is opened, checks its offers, forms its levels and closes by these numbers alone.
+-- Document 02, W-202: at rate 10 with ticks 216000 and 791999 every answer is the one before that request. Here stands what a call answers by, with the
+-- numbers of document 01, and of W-205 for rule 2, written out: such a day is opened, checks its offers, forms its levels and closes by these numbers alone.
 use mathlib.Core.Path.{_≡_}
-use mathlib.Core.Bool.{Bool, _&&_, _||_}
+use mathlib.Core.Bool.{Bool, _&&_, _||_, not}
 use mathlib.Core.List.{List}
-use Prim.Native.Nat.{ℕ, _+_, _*_}
+use Prim.Native.Nat.{ℕ, _+_, _-_, _*_}
 use lib.Dec.{leb, ltb}
 use lib.ListN.{length}
+use Rattle.quantity.specs.Instants.{midnight, instantAt}
 use Rattle.quantity.specs.Limits.{highestSample}
 use Rattle.quantity.specs.Rules.{firstOf, refused, given, outcome, follow}
 use Rattle.level.specs.Level.{levelOf}
@@ -36,11 +37,11 @@ module _ (daytime night : List ℕ) where
   abbrev pub OpeningBefore : Type 0
   OpeningBefore =
       opened (openingBefore daytime night)
-      ≡ follow (outcome (firstOf (bookRules daytime night)) (freshDay terminal daytime night))
+      ≡ follow (outcome (firstOf (bookRules daytime night)) (freshDay terminal (instantAt midnight) daytime night))
       (λ n. record { day = noDay; answer = refused n })
       (λ day. record { day = day; answer = given tt })
 
-  -- offers: 3 to 6000 samples, a window within 864000 ticks, daytime from tick 216000 to 791999, and LAE over 10
+  -- offers: 3 to 6000 samples, a window from -6000 to 870000 with its peak from 0 to 863999, daytime from tick 216000 to 791999, and LAE over 10
   abbrev pub RulesBefore : Type 0
   RulesBefore =
       (o : Offering) (unbooked : Bool) (end : ℕ) (used : Bool)
@@ -48,23 +49,25 @@ module _ (daytime night : List ℕ) where
       let s = o .samples in
       let v = eventOf s in
       let n = length s in
+      let start = r .start .0 in
+      let peak = start + v .peak in
       offerChecks (terminal .rate) o unbooked end used
       ≡ offerRules
       (ltb n 3 || ltb 6000 n)
-      (ltb 864000 (r .start .0 + n))
+      ((ltb start (midnight - 6000) || ltb (midnight + 870000) (start + n)) || not (leb midnight peak && ltb peak (midnight + 864000)))
       unbooked
       (anyAbove highestSample s || ltb highestSample (r .background .0))
       (r .wet || ltb 100 (r .wind))
       (tooFaint (r .background .0) (v .lmax .0))
       (touchesEdge (v .stretch .first) (v .stretch .end) n)
-      (ltb (r .start .0 + v .stretch .first) end)
+      (ltb (start + v .stretch .first) end)
       used
 
   abbrev pub DaytimeBefore : Type 0
   DaytimeBefore =
       (r : Recording) (v : Event)
       → let t = r .start .0 + v .peak in
-      inDaytime terminal r v ≡ (leb 216000 t && leb t 791999)
+      inDaytime terminal r v ≡ (leb (midnight + 216000) t && leb t (midnight + 791999))
 
   abbrev pub ExposureBefore : Type 0
   ExposureBefore = (s : List ℕ) → exposureOf (terminal .rate) s ≡ levelOf 0 10 (energyOf s)

@@ -51,6 +51,6 @@ Demanded K t day (closing before after) =
     let c = dayClosed day before after in
     CloseDemanded K t before after (c .answer) (c .highestByClass)
 
--- for every K, all settings and every book that open, every list of calls, refused ones included, and one call more
+-- for every K, all settings and every book that open, whatever end of the day before, every list of calls, refused ones included, and one call more
 unfoldable pub Claim : Type 0
 Claim = (K : ℕ) → Always (λ t day. (call : Call) → Demanded K t day call)

@@ -8,6 +8,9 @@ use lib.Dec.{leb, ltb, eqb}
 use lib.ListN.{length, getD}
 use Rattle.quantity.specs.Answers.{highestReading}
 use Rattle.quantity.specs.Rules.{firstOf}
+use Rattle.quantity.specs.Lists.{Each}
+use Rattle.clock.specs.Clock.{earliestStart, latestEnd}
+use Rattle.clock.specs.declared.Rate.{Rate}
 use Rattle.event.specs.Window.{highest}
 use Rattle.decades.specs.Decades.{energies}
 use Rattle.ledger.specs.Day.{Opening, openRules, openedSettings, openedDay, periodOf, energyIn, levelsByClass}
@@ -15,7 +18,7 @@ use Rattle.ledger.specs.declared.Day.{Day}
 use Rattle.accuracy.specs.Tally.{Call, Held, Tally, started, tallyOf, sameAs}
 use Rattle.accuracy.specs.Terminal.{dayAfterCalls}
 
--- for all settings and every book that open, and every list of calls, refused ones included
+-- for all settings and every book that open, whatever end of the day before, and every list of calls, refused ones included
 abbrev pub Always : (Tally → Day → Type 0) → Type 0
 Always P =
     (o : Opening) → firstOf (openRules o) ≡ 0 → (calls : List Call)
@@ -25,10 +28,14 @@ Always P =
 abbrev pub SettingsKept : Type 0
 SettingsKept = (o : Opening) → firstOf (openRules o) ≡ 0 → (calls : List Call) → dayAfterCalls (openedDay o) calls .settings ≡ openedSettings o
 
--- the stretches, the latest first, end by a tick, and each begins where the ones before it have ended: no instant is counted twice
+-- the stretches, the latest first, end by an instant, and each begins where the ones before it have ended: no instant is counted twice
 abbrev pub Apart : ℕ → List Held → Type 0
 Apart end [] = Unit
 Apart end (h ∷ hs) = (h .to ≤ end) × (h .from < h .to) × Apart (h .from) hs
+
+-- W-205: each of them begins at the earliest start of a window or later, and ends by the latest end of one
+abbrev pub WithinReach : Rate → List Held → Type 0
+WithinReach rate = Each (λ h. (earliestStart rate ≤ h .from) × (h .to ≤ latestEnd rate))
 
 -- how many of the stretches hold an instant
 abbrev pub holders : ℕ → List Held → ℕ

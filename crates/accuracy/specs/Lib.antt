@@ -1,7 +1,10 @@
--- Demand 3 as a reader finds it: the plain tally, the terminal over lists of calls, the laws beside the claims, and the claims; and what stayed as it was.
+-- Demand 3 as a reader finds it: the plain tally, the terminal over lists of calls, the laws beside the claims, and the claims; days in a row; and what stayed
+-- as it was.
 pub mod Tally
 pub mod Terminal
 pub mod Laws
 pub mod Demand
 pub mod Means
 pub mod Before
+pub mod NextDay
+pub mod Midnight

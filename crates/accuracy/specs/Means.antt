@@ -8,39 +8,28 @@ use Prim.Native.Nat.{ℕ, _*_, _/_}
 use lib.ListN.{length}
 use Rattle.quantity.specs.Answers.{Reading, level, below-scale}
 use Rattle.quantity.specs.Lists.{Each}
-use Rattle.quantity.specs.Rules.{firstOf, Outcome, refused, given}
+use Rattle.quantity.specs.Rules.{Outcome, refused, given}
 use Rattle.quantity.specs.declared.DayAnswer.{DayAnswer}
 use Rattle.level.specs.Accuracy.{Sample, Accurate}
 use Rattle.clock.specs.Clock.{samplesASecond}
 use Rattle.clock.specs.declared.Rate.{Rate}
-use Rattle.ledger.specs.Day.{Opening, openRules, openedSettings, openedDay}
 use Rattle.closing.specs.Formula.{formulaOne}
 use Rattle.closing.specs.Close.{Closing, closed}
 use Rattle.mean.specs.Mean.{isCountWrong, weekMeanOf, yearMeanOf}
 use Rattle.mean.specs.Records.{readings, dayReading}
-use Rattle.accuracy.specs.Tally.{Call, Held, started, tallyOf, heldSamples}
-use Rattle.accuracy.specs.Terminal.{dayAfterCalls}
+use Rattle.accuracy.specs.Tally.{heldSamples}
+use Rattle.accuracy.specs.Terminal.{CalledDay, dayOf, heldIn, rateIn}
 use Rattle.accuracy.specs.Demand.{Claim}
 
--- a day of a mean: settings and a book that open, a list of calls of its own and a closing after them; and the day's record, which holds that answer
+-- a day of a mean: a day with its own list of calls, a closing after them, and the day's record, which holds that answer
 pub record ClosedDay : Type 0 where
-  pub opening : Opening
-  pub opens : firstOf (openRules opening) ≡ 0
-  pub calls : List Call
+  pub day : CalledDay
   pub before : ℕ
   pub after : ℕ
   pub closing : Closing
-  pub closes : closed (dayAfterCalls (openedDay opening) calls) before after ≡ given closing
+  pub closes : closed (dayOf day) before after ≡ given closing
   pub kept : DayAnswer
   pub holds : dayReading kept ≡ record { level = closing .ldn; method = closing .method }
-
--- the stretches held at its closing
-abbrev pub heldIn : ClosedDay → List Held
-heldIn d = tallyOf (started (d .opening)) (d .calls) .stretches
-
--- the rate of its terminal
-abbrev pub rateIn : ClosedDay → Rate
-rateIn d = openedSettings (d .opening) .rate
 
 -- W-202: so that days of different rates stand side by side, each weight is multiplied by 40 over the rate of its day
 abbrev pub rateWeight : Rate → ℕ
@@ -50,9 +39,9 @@ rateWeight rate = 40 / samplesASecond rate
 abbrev pub meanWeight : Rate → Bool → ℕ
 meanWeight rate p = rateWeight rate * cond p (formulaOne rate .daytime) (formulaOne rate .night)
 
--- its samples
+-- the samples of the stretches held at its closing
 abbrev pub daySamples : ClosedDay → List Sample
-daySamples d = heldSamples (meanWeight (rateIn d)) (heldIn d)
+daySamples d = heldSamples (meanWeight (rateIn (d .day))) (heldIn (d .day))
 
 -- the records and the samples of some days
 abbrev pub recordsOf : List ClosedDay → List DayAnswer
@@ -71,7 +60,7 @@ pub record Measured (d : ClosedDay) : Type 0 where
 
 -- a day without any stretch held, which is below scale
 pub record Quiet (d : ClosedDay) : Type 0 where
-  pub none : heldIn d ≡ []
+  pub none : heldIn (d .day) ≡ []
   pub belowScale : d .closing .ldn ≡ below-scale
 
 -- M is 3456000 * D, G + 1 becomes G + 3 and r + 1 becomes r + 2

@@ -1,4 +1,4 @@
--- Document 01, 'Day': the plain tally of demand 3. It is fed the arguments of opening and of each offer and closing, and no answers.
+-- Document 01, 'Day': the plain tally of demand 3, whose times are instants. It is fed the arguments of opening and of each offer and closing, and no answers.
 use mathlib.Core.Bool.{Bool, true, false, cond}
 use mathlib.Core.List.{List, [], _∷_, _++_}
 use Prim.Native.Nat.{ℕ, _+_}
@@ -20,7 +20,7 @@ pub data Call : Type 0 where
   offering : Offering → Call
   closing : (before after : ℕ) → Call
 
--- a stretch of the list, with its class and its period: its samples, and the tick of the first and the tick after the last
+-- a stretch of the list, with its class and its period: its samples, and the instant of the first and the instant after the last
 pub record Held : Type 0 where
   pub class : ℕ
   pub daytime : Bool
@@ -47,7 +47,7 @@ started o =
     record {
       settings = openedSettings o;
       book = bookOf (o .daytime) (o .night);
-      end = 0;
+      end = o .end;
       count = λ p. replicate (length (o .daytime)) 0;
       stretches = [];
     }

@@ -150,10 +150,10 @@ c-claim K day opening e calls call = go call
 -- the level of a record that calls through C wrote is that of the closing
 wrote-level : (d : ClosedDay) (n : ℕ) → Wrote d n → recordLevel n ≡ reading (d .kept .level)
 wrote-level d n x =
-    let w = whole (x .day) (d .opening) (x .opens) (x .calls) in
-    let words = wordsOf (x .day) (d .opening) (x .calls) in
+    let w = whole (x .day) (d .day .opening) (x .opens) (x .calls) in
+    let words = wordsOf (x .day) (d .day .opening) (x .calls) in
     let is : closed (dayFrom words) (d .before) (d .after) ≡ given (d .closing) =
-    ap (λ (y : Day). closed y (d .before) (d .after)) (w .1 ∙ ap (dayAfterCalls (openedDay (d .opening))) (x .same)) ∙ d .closes in
+    ap (λ (y : Day). closed y (d .before) (d .after)) (w .1 ∙ ap (dayAfterCalls (openedDay (d .day .opening))) (x .same)) ∙ d .closes in
     let told = subst PlainClosing is (plain-closing (dayFrom words) (w .2) (d .before) (d .after)) in
     let written : closeLeaves (x .lent) words (d .before) (d .after) .lent .dayRecord ≡ recordNumber (d .closing .ldn) (d .closing .method) = rw is in
     ap recordLevel (sym (x .is) ∙ written)

@@ -1,4 +1,4 @@
--- The words hold the day of the list of calls.
+-- The words hold the day of the list of calls, and give the end that it gives.
 use mathlib.Core.Path.{_≡_, refl, ap, _∙_}
 use mathlib.Core.Bool.{Bool, true, false}
 use mathlib.Core.List.{List, [], _∷_, map}
@@ -12,6 +12,7 @@ use Rattle.quantity.specs.Limits.{highestSample}
 use Rattle.quantity.specs.declared.HighestLevel.{HighestLevel}
 use Rattle.quantity.specs.declared.HighestLevel.the-variants as highests
 use Rattle.quantity.specs.declared.Level.{Level}
+use Rattle.quantity.proofs.Instants.{ticks-back}
 use Rattle.quantity.proofs.Tests.{test}
 use Rattle.limbs.specs.Value.{value, base}
 use Rattle.limbs.proofs.Digits.{value-limbsOf}
@@ -19,7 +20,7 @@ use Rattle.event.specs.Event.{eventOf}
 use Rattle.exposure.specs.Exposure.{energyOf}
 use Rattle.event.specs.Window.{highest}
 use Rattle.ledger.specs.Book.{mostClasses}
-use Rattle.ledger.specs.Day.{Answered, noneInClass, noDay, Opening, openRules, openedDay, periodOf, withPeriod, energyIn}
+use Rattle.ledger.specs.Day.{Answered, noneInClass, noDay, Opening, openRules, openedDay, periodOf, withPeriod, energyIn, endForNextDay}
 use Rattle.admission.specs.Checks.{Offering, dayChecks, inDaytime}
 use Rattle.offering.specs.Offer.{Accepted, withEvent, raised, raisedInClass, admitted, offered}
 use Rattle.ledger.specs.declared.ClassHighest.{ClassHighest}
@@ -33,7 +34,7 @@ use Rattle.day_words.proofs.Reached.{opened-fits, offered-fits}
 use Rattle.c_interface.specs.Calls.{openLeaves, leaves}
 use Rattle.c_interface.specs.Numbers.{levelNumber}
 use Rattle.c_accuracy.specs.Calls.{CCall, offer, close, callOf, lentTo, wordsAfter, wordsAfterCalls, wordsOf}
-use Rattle.c_accuracy.specs.Demand.{HeldLaw}
+use Rattle.c_accuracy.specs.Demand.{HeldLaw, EndLaw}
 
 -- what is known of a day that calls reach: it fits into its words, its sums into their limbs, and no Lmax is above the limit
 abbrev pub Low : HighestLevel → Type 0
@@ -176,3 +177,8 @@ whole day o e calls =
 
 pub held : HeldLaw
 held day o e calls = whole day o e calls .1
+
+-- the end to open the next day with
+pub end-law : EndLaw
+end-law day o e calls =
+    ticks-back (endForNextDay (dayFrom (wordsOf day o calls)) .0) ∙ ap (λ (d : Day). endForNextDay d .0) (held day o e calls)

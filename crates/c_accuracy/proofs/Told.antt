@@ -17,10 +17,10 @@ use Rattle.power.proofs.Scale.{e-mono, e-at, m-zero}
 use Rattle.limbs.specs.Value.{base}
 use Rattle.level.specs.Level.{levelOf}
 use Rattle.level.proofs.Answer.{Answers, answers}
-use Rattle.clock.specs.Clock.{samplesASecond, dayTicks}
+use Rattle.clock.specs.Clock.{samplesASecond, latestEnd}
 use Rattle.clock.specs.declared.Rate.{Rate}
 use Rattle.clock.specs.declared.Rate.the-variants.{Forty}
-use Rattle.clock.proofs.Rates.{rate-positive, ticks-most}
+use Rattle.clock.proofs.Rates.{rate-positive, latest-most}
 use Rattle.exposure.specs.Exposure.{energyOf, exposureOf}
 use Rattle.event.specs.Stretch.{stretchEnd}
 use Rattle.event.proofs.Whole.{in-window}
@@ -54,8 +54,8 @@ told-exposure rate o unbooked end used h =
     let a = admits rate o unbooked end used h in
     let s = o .samples in
     let energy : energyOf s ≤ e highestSample * stretchEnd s = omega (arith, stretch-energy highestSample s (a .level)) in
-    let ticks : stretchEnd s ≤ dayTicks Forty = omega (arith, in-window s .end, a .past, ticks-most rate) in
-    let most : e highestSample * dayTicks Forty < e top = rw (at-top, e-at 14 0 (lit≤ tt), m-zero) (lit< tt) in
+    let ticks : stretchEnd s ≤ latestEnd Forty = omega (arith, in-window s .end, a .inside .ends, latest-most rate) in
+    let most : e highestSample * latestEnd Forty < e top = rw (at-top, e-at 14 0 (lit≤ tt), m-zero) (lit< tt) in
     told 0 (samplesASecond rate) (energyOf s) (rate-positive rate) (lt-of-le-of-lt (le-trans energy (mul-le-mul-left (e highestSample) ticks)) most)
 
 -- the level of two energies below 2^128 with weights below 10^8

@@ -5,9 +5,10 @@ use Prim.Native.Nat.{ℕ}
 use mathlib.Core.Option.{Option}
 use lib.ListN.{getD}
 use Rattle.quantity.specs.Answers.{Reading}
+use Rattle.quantity.specs.Instants.{ticksOf}
 use Rattle.quantity.specs.Lists.{Each}
 use Rattle.quantity.specs.Rules.{Outcome, outcome}
-use Rattle.ledger.specs.Day.{Opening, openedDay}
+use Rattle.ledger.specs.Day.{Opening, openedDay, endForNextDay}
 use Rattle.offering.specs.Offer.{Accepted}
 use Rattle.closing.specs.Close.{Closing}
 use Rattle.accuracy.specs.Tally.{Tally, started, tallyOf}
@@ -16,7 +17,7 @@ use Rattle.accuracy.specs.Demand.{OfferDemanded, CloseDemanded}
 use Rattle.accuracy.specs.Means.{ClosedDay, Measured, MeanDemanded}
 use Rattle.day_words.specs.Words.{dayFrom}
 use Rattle.c_interface.specs.Numbers.{levelFrom, highestFrom, classLevelsFrom, recordLevel, recordMethod}
-use Rattle.c_interface.specs.Calls.{Left, OfferLent, CloseLent, openLeaves, offerLeaves, closeLeaves, weekLeaves, yearLeaves}
+use Rattle.c_interface.specs.Calls.{Left, OfferLent, CloseLent, openLeaves, offerLeaves, endGiven, closeLeaves, weekLeaves, yearLeaves}
 use Rattle.c_accuracy.specs.Calls.{CCall, offer, close, callOf, lentTo, wordsOf}
 
 -- the outcome that a caller reads: the number of the refusal, or what the numbers hold that were lent
@@ -46,6 +47,12 @@ HeldLaw =
     (day : List ℕ) (o : Opening) → openLeaves day o .answer ≡ 0 → (calls : List CCall)
     → dayFrom (wordsOf day o calls) ≡ dayAfterCalls (openedDay o) (map callOf calls)
 
+-- document 02, W-205: the end to open the next day with, as C gives it, stands for the instant that the day of the list gives
+abbrev pub EndLaw : Type 0
+EndLaw =
+    (day : List ℕ) (o : Opening) → openLeaves day o .answer ≡ 0 → (calls : List CCall)
+    → ticksOf (endGiven (wordsOf day o calls)) ≡ endForNextDay (dayAfterCalls (openedDay o) (map callOf calls)) .0
+
 -- and for every K and one call more, what the caller reads stands in the demanded relation to the plain tally of the list
 abbrev pub CDemanded : ℕ → Tally → List ℕ → CCall → Type 0
 CDemanded K t day (offer o exposure lmax) = OfferDemanded K t o (offerSeen (offerLeaves (lentTo day exposure lmax) o))
@@ -61,11 +68,11 @@ CClaim =
 -- a record that calls through C wrote: an opening and calls with the arguments of the day, and a closing that is not refused
 pub record Wrote (d : ClosedDay) (written : ℕ) : Type 0 where
   pub day : List ℕ
-  pub opens : openLeaves day (d .opening) .answer ≡ 0
+  pub opens : openLeaves day (d .day .opening) .answer ≡ 0
   pub calls : List CCall
-  pub same : map callOf calls ≡ d .calls
+  pub same : map callOf calls ≡ d .day .calls
   pub lent : CloseLent
-  pub is : closeLeaves lent (wordsOf day (d .opening) calls) (d .before) (d .after) .lent .dayRecord ≡ written
+  pub is : closeLeaves lent (wordsOf day (d .day .opening) calls) (d .before) (d .after) .lent .dayRecord ≡ written
 
 abbrev pub AllWrote : List ClosedDay → List ℕ → Type 0
 AllWrote [] [] = Unit

@@ -6,8 +6,8 @@ use Prim.Native.Nat.{ℕ}
 use lib.IntN.{ℤ}
 use lib.ListN.{length, getD, set}
 use Rattle.quantity.specs.Rules.{Outcome, outcome, follow, Rule, firstOf}
-use Rattle.clock.specs.Clock.{tickAt}
-use Rattle.ledger.specs.Day.{Opening, opened}
+use Rattle.quantity.specs.Instants.{instantOf, afterMidnight}
+use Rattle.ledger.specs.Day.{Opening, opened, endForNextDay}
 use Rattle.admission.specs.Checks.{Offering}
 use Rattle.offering.specs.Offer.{offered}
 use Rattle.closing.specs.Close.{Closed, dayClosed}
@@ -35,10 +35,10 @@ abbrev pub openLeaves : List ℕ → Opening → Left (List ℕ)
 openLeaves day o = leaves day (opened o .answer) (λ _. dayWords (opened o .day))
 
 -- an offer by its numbers
-abbrev pub offeringAs : (start class wind : ℕ) (wet : Bool) (background : ℕ) → List ℕ → Offering
+abbrev pub offeringAs : (start : ℤ) (class wind : ℕ) (wet : Bool) (background : ℕ) → List ℕ → Offering
 offeringAs start class wind wet background samples =
     record {
-      recording = record { start = tickAt start; class = class; wind = wind; wet = wet; background = record { 0 = background } };
+      recording = record { start = instantOf start; class = class; wind = wind; wet = wet; background = record { 0 = background } };
       samples = samples;
     }
 
@@ -53,6 +53,10 @@ offerLeaves lent o =
     let after = offered (dayFrom (lent .day)) o in
     leaves lent (after .answer)
     (λ a. record { day = dayWords (after .day); exposure = levelNumber (a .exposure); lmax = a .lmax })
+
+-- the end to open the next day with, in ticks after the next midnight
+abbrev pub endGiven : List ℕ → ℤ
+endGiven day = afterMidnight (endForNextDay (dayFrom day))
 
 -- a closing: the day's record; Nd', Nn' and the highest Lmax; and the highest Lmax of each class
 pub record CloseLent : Type 0 where

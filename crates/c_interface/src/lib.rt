@@ -3,9 +3,11 @@
 ghost use mathlib.Core.Path.{_≡_};
 ghost use Prim.Native.Nat.{_<_, _≤_};
 ghost use Rattle.quantity.specs.Answers.{reading, methodNumber, highestReading};
+ghost use Rattle.quantity.specs.Instants.{ticksOf};
 ghost use Rattle.ledger.specs.Day.{openingOf, levelsByClass};
 ghost use Rattle.mean.specs.Mean.{meanOutcome, meanOf};
 ghost use Rattle.land.specs.Answers.{marginReading, findingReading};
+ghost use Rattle.pairing.specs.Pairing.{instants};
 ghost use Rattle.c_interface.specs.Numbers.{
   levelFrom,
   levelNumber,
@@ -23,6 +25,7 @@ ghost use Rattle.c_interface.specs.Calls.{
   openLeaves,
   offeringAs,
   offerLeaves,
+  endGiven,
   closeLeaves,
   weekLeaves,
   yearLeaves,
@@ -125,23 +128,26 @@ fn record_of(ldn: Reading, method: Method) -> u64
     level_number(ldn) as u64 + UPPER * (quantity::method_number(method) as u64)
 }
 
-// Opens a day: the samples a second of its terminal, the first and the last daytime tick, and the book, for each class the flights by day and by night.
+// Opens a day: the samples a second of its terminal, the first and the last daytime tick, the end of the previous day's last stretch in ticks after the new
+// midnight, and the book, for each class the flights by day and by night.
 #[no_mangle]
 pub extern "C" fn moatburdock_open_day(
     day: &mut [u32; 320],
     rate: u32,
     first: u32,
     last: u32,
+    end: i32,
     daytime: &[u16],
     night: &[u16],
 ) -> u8
     ensures { λ r.
         ⌜
         record { answer = r; lent = now (day .exit) }
-        ≡ openLeaves (now (day .entry)) (openingOf rate first last (now (daytime .entry)) (now (night .entry)))
+        ≡ openLeaves (now (day .entry)) (openingOf rate first last (ticksOf end) (now (daytime .entry)) (now (night .entry)))
         ⌝ }
 {
-    let opened = ledger::open_day(rate, Tick(first), Tick(last), daytime, night);
+    let before = quantity::instant_of(end);
+    let opened = ledger::open_day(rate, Tick(first), Tick(last), before, daytime, night);
     let answer = opened.answer;
     match answer {
         Check::Refused(refusal) => quantity::refusal_number(refusal),
@@ -153,12 +159,12 @@ pub extern "C" fn moatburdock_open_day(
     }
 }
 
-// Offers an event to a day: its start in ticks after midnight, the class of the flight, the wind in tenths of m/s, rain, snow or thunder,
+// Offers an event to a day: its start in ticks after midnight, negative before it, the class of the flight, the wind in tenths of m/s, rain, snow or thunder,
 // the background level and the samples. Gives LAE and Lmax.
 #[no_mangle]
 pub extern "C" fn moatburdock_offer(
     day: &mut [u32; 320],
-    start: u32,
+    start: i32,
     class: u8,
     wind: u16,
     wet: bool,
@@ -176,7 +182,7 @@ pub extern "C" fn moatburdock_offer(
         ⌝ }
 {
     let recording = Recording {
-        start: Tick(start),
+        start: quantity::instant_of(start),
         class,
         wind,
         wet,
@@ -197,6 +203,14 @@ pub extern "C" fn moatburdock_offer(
             0
         }
     }
+}
+
+// The end to open the next day with: that of the day's last accepted stretch in ticks after the next midnight, and 600 s before it where there is none.
+#[no_mangle]
+pub extern "C" fn moatburdock_end_for_next_day(day: &[u32; 320]) -> i32
+    ensures { λ r. ⌜ r ≡ endGiven (now (day .entry)) ⌝ }
+{
+    quantity::after_midnight(ledger::end_for_next_day(day_words::decode(day)))
 }
 
 // Closes a day, with the calibration levels before and after. Gives the day's record, and Nd', Nn' and the highest Lmax, and the highest Lmax of each class.
@@ -395,12 +409,12 @@ pub extern "C" fn moatburdock_land_class(letter: u8, digit: u8, class: &mut u8) 
     }
 }
 
-// Pairs movements with peaks that are no further apart than the tolerance, each at most once and as many as can be; all times are in ticks. Gives the
-// count of the pairs, and for each entry its partner's place counted from 1, or 0.
+// Pairs movements with peaks that are no further apart than the tolerance, each at most once and as many as can be. All times are in ticks after midnight,
+// negative before it. Gives the count of the pairs, and for each entry its partner's place counted from 1, or 0.
 #[no_mangle]
 pub extern "C" fn moatburdock_pair_movements(
-    movements: &[u32],
-    peaks: &[u32],
+    movements: &[i32],
+    peaks: &[i32],
     tolerance: u32,
     movement_marks: &mut [u16],
     peak_marks: &mut [u16],
@@ -408,7 +422,7 @@ pub extern "C" fn moatburdock_pair_movements(
 ) -> u8
     ensures { λ r.
         ⌜
-        PairLeaves (now (movements .entry)) (now (peaks .entry)) tolerance
+        PairLeaves (instants (now (movements .entry))) (instants (now (peaks .entry))) tolerance
         (record {
           count = now (count .entry);
           marks = record { movements = now («movement_marks» .entry); peaks = now («peak_marks» .entry) };

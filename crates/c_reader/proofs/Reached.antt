@@ -14,7 +14,7 @@ use Rattle.admission.specs.Checks.{offeringOf}
 use Rattle.ledger.specs.declared.Day.{Day}
 use Rattle.day_words.specs.Words.{DayFits}
 use Rattle.day_words.proofs.Reached.{opened-fits, offered-fits}
-use Rattle.day_file.specs.Records.{rateOfFile, firstOfFile, lastOfFile, bookSection, bookEnd, dayFlights, nightFlights, Header, headerRules, headerAt, EventFields, eventRecord, recordSamples}
+use Rattle.day_file.specs.Records.{rateOfFile, firstOfFile, lastOfFile, endOfFile, bookSection, bookEnd, dayFlights, nightFlights, Header, headerRules, headerAt, EventFields, eventRecord, recordSamples}
 use Rattle.day_file.specs.File.{bookOpened, startOf, takenOf}
 use Rattle.steps.specs.declared.Reader.{Reader}
 use Rattle.steps.specs.declared.Stage.{Stage}
@@ -26,7 +26,7 @@ use Rattle.c_reader.specs.Run.{Bytes}
 
 no-day-fits : DayFits noDay
 unfolding firstOf
-no-day-fits = opened-fits (openingOf 0 0 0 [] [])
+no-day-fits = opened-fits (openingOf 0 0 0 0 [] [])
 
 pub fresh-fits : ReaderFits freshReader
 fresh-fits = record { day = no-day-fits; count = omega arith; done = omega arith }
@@ -37,7 +37,7 @@ start-fits window = go (bookSection window) refl
   where
     go : (o : Outcome ℕ) → bookSection window ≡ o → DayFits (startOf window .day)
     go (refused n) e = rw e no-day-fits
-    go (given classes) e = rw e (opened-fits (openingOf (rateOfFile window) (firstOfFile window) (lastOfFile window) (dayFlights window classes) (nightFlights window classes)))
+    go (given classes) e = rw e (opened-fits (openingOf (rateOfFile window) (firstOfFile window) (lastOfFile window) (endOfFile window) (dayFlights window classes) (nightFlights window classes)))
 
 event-fits : (d : Day) (window : List ℕ) → DayFits d → DayFits (takenOf d window .day)
 event-fits d window f = go (eventRecord (d .settings .rate) window) refl

@@ -1,2 +1,3 @@
--- The laws of the rates.
+-- The laws of the rates, and of rule 2.
 pub mod Rates
+pub mod Inside

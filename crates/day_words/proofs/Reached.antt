@@ -8,6 +8,7 @@ use lib.Dec.{eqb, ltb}
 use lib.ListN.{length, getD, set, length-set, length-replicate}
 use borrow.Author.Needs.{needs}
 use borrow.Author.Tests.{ltb-false, leb-false}
+use Rattle.quantity.specs.declared.Instant.{Instant}
 use Rattle.quantity.specs.Rules.{firstOf, refused, given, outcome, follow}
 use Rattle.quantity.proofs.Refusing.{pass}
 use Rattle.quantity.proofs.Tests.{neither}
@@ -60,8 +61,9 @@ fresh-period-fits flights narrow =
       accepted-narrow = narrow-padded mostClasses [] (λ i. omega arith);
     }
 
-fresh-fits : (c : Settings) (daytime night : List ℕ) → length daytime ≤ mostClasses → Narrow daytime → Narrow night → DayFits (freshDay c daytime night)
-fresh-fits c daytime night h by-day by-night =
+fresh-fits : (c : Settings) (end : Instant) (daytime night : List ℕ) → length daytime ≤ mostClasses → Narrow daytime → Narrow night
+    → DayFits (freshDay c end daytime night)
+fresh-fits c end daytime night h by-day by-night =
     record { classes = omega (arith, h); daytime = fresh-period-fits daytime by-day; night = fresh-period-fits night by-night; byClass = refl }
 
 few-flights : (daytime night : List ℕ) → isBookInvalid daytime night ≡ false → sumOf daytime + sumOf night ≤ mostFlights
@@ -90,8 +92,8 @@ opened-fits o = go (firstOf (openRules o)) refl
     go zero h =
         let valid = pass (openRules o) (search needs) h .1 .0 in
         let few = few-flights daytime night valid in
-        fresh-fits _ daytime night (book-fits daytime night valid .0) (λ i. omega (arith, below-sum daytime i)) (λ i. omega (arith, below-sum night i))
-    go (suc n) h = fresh-fits _ [] [] (omega arith) (λ i. omega arith) (λ i. omega arith)
+        fresh-fits _ _ daytime night (book-fits daytime night valid .0) (λ i. omega (arith, below-sum daytime i)) (λ i. omega (arith, below-sum night i))
+    go (suc n) h = fresh-fits _ _ [] [] (omega arith) (λ i. omega arith) (λ i. omega arith)
 
 with-event-fits : (p : Period) (class S : ℕ) → PeriodFits p → getD (p .accepted) class 0 < getD (p .booked) class 0 → PeriodFits (withEvent p class S)
 with-event-fits p class S f left =

@@ -6,6 +6,7 @@ use Prim.Native.Nat.{ℕ, zero, suc, _+_, _%_, _<_}
 use mathlib.Core.Path.{_≡_}
 use lib.Dec.{eqb}
 use lib.ListN.{length, take, drop, getD, replicate}
+use Rattle.quantity.specs.Instants.{instantAt}
 use Rattle.quantity.specs.declared.HighestLevel.{HighestLevel}
 use Rattle.quantity.specs.declared.HighestLevel.the-variants as highests
 use Rattle.clock.specs.Clock.{tickAt}
@@ -94,7 +95,7 @@ dayFrom words =
       classes = getD words 72 0 % 256;
       daytime = periodFrom words 0;
       night = periodFrom words 36;
-      end = tickAt (getD words 73 0);
+      end = instantAt (getD words 73 0);
       highest = highestMarked (getD words 74 0) (getD words 75 0);
       «highest_by_class» = classesFrom words 76 16;
     }

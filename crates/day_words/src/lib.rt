@@ -28,6 +28,7 @@ use ledger::ClassHighest;
 use ledger::Day;
 use ledger::Period;
 use quantity::HighestLevel;
+use quantity::Instant;
 use quantity::Level;
 use quantity::Tick;
 
@@ -242,7 +243,7 @@ pub fn decode(words: &[u32; 320]) -> Day
         classes: (words[CLASSES] % 256) as u8,
         daytime: period_at(words, DAYTIME),
         night: period_at(words, NIGHT),
-        end: Tick(words[END]),
+        end: Instant(words[END]),
         highest: highest_from(words[HIGHEST_MARK], words[HIGHEST]),
         highest_by_class: classes_at(words, HIGHEST_BY_CLASS),
     }

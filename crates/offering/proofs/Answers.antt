@@ -1,7 +1,7 @@
 -- What holds of an offer that no rule refuses, and what comes of an offer.
 use mathlib.Core.Path.{_≡_, refl}
 use mathlib.Core.List.{List}
-use Prim.Native.Nat.{ℕ, _+_, _≤_}
+use Prim.Native.Nat.{ℕ, _≤_}
 use native.Mathlib.Omega.{arith}
 use borrow.Author.Needs.{needs}
 use borrow.Author.Tests.{ltb-false, leb-false}
@@ -18,7 +18,8 @@ use Rattle.limbs.specs.Value.{value, limbsOf}
 use Rattle.limbs.proofs.Digits.{added-modulo}
 use Rattle.decades.specs.Decades.{energies}
 use Rattle.event.specs.Window.{highest, anyAbove}
-use Rattle.clock.specs.Clock.{dayTicks, longestOfAll}
+use Rattle.clock.specs.Clock.{longestOfAll}
+use Rattle.clock.proofs.Inside as clocks
 use Rattle.clock.proofs.Rates.{rate-most}
 use Rattle.event.specs.Event.{eventOf}
 use Rattle.event.specs.declared.Event.{Event}
@@ -43,8 +44,8 @@ module _ (day : Day) (r : Recording) (s : List ℕ) (h : firstOf (dayChecks day 
   short : length s ≤ longestOfAll
   short = short-enough (day .settings .rate) (length s) (rules .0)
 
-  past : r .start .0 + length s ≤ dayTicks (day .settings .rate)
-  past = ltb-false _ _ (rules .1 .0)
+  window : clocks.Inside (day .settings .rate) (r .start .0) (eventOf s .peak) (length s)
+  window = clocks.inside (day .settings .rate) (r .start .0) (eventOf s .peak) (length s) (rules .1 .0)
 
   pub admissible : Admissible day r (eventOf s)
   admissible =
@@ -52,7 +53,7 @@ module _ (day : Day) (r : Recording) (s : List ℕ) (h : firstOf (dayChecks day 
       record {
         class = leb-false _ _ (neither (leb (day .classes) (r .class)) (leb mostClasses (r .class)) (rules .1 .1 .0) .1);
         peak = omega (arith, w, short);
-        end = omega (arith, w, past, rate-most (day .settings .rate));
+        end = omega (arith, w, window .ends, rate-most (day .settings .rate));
         left = leb-false _ _ (rules .1 .1 .1 .1 .1 .1 .1 .1 .0);
       }
 

@@ -4,7 +4,8 @@ ghost use mathlib.Core.Bool.{false};
 ghost use Prim.Native.Nat.{_+_, _<_};
 ghost use lib.Dec.{ltb};
 ghost use lib.ListN.{length, replicate};
-ghost use Rattle.pairing.specs.Pairing.{distance, Largest};
+ghost use Rattle.quantity.specs.Instants.{ticksOf};
+ghost use Rattle.pairing.specs.Pairing.{instants, distance, Largest};
 ghost use Rattle.pairing.specs.Answers.{mostEntries, falls, unfit, pairingReading, Answered};
 use quantity::Refusal;
 
@@ -17,25 +18,27 @@ pub enum PairingAnswer {
 // No list has more entries.
 const MOST_ENTRIES: usize = 2000;
 
-fn is_earlier(time: u32, other: u32) -> bool
-    ensures { λ r. ⌜ r ≡ ltb time other ⌝ }
+fn is_earlier(time: i32, other: i32) -> bool
+    ensures { λ r. ⌜ r ≡ ltb (ticksOf time) (ticksOf other) ⌝ }
 {
-    time < other
+    quantity::instant_of(time).0 < quantity::instant_of(other).0
 }
 
 // How far apart two times are, in ticks.
-fn distance(time: u32, other: u32) -> u32
-    ensures { λ r. ⌜ r ≡ distance time other ⌝ }
+fn distance(time: i32, other: i32) -> u32
+    ensures { λ r. ⌜ r ≡ distance (ticksOf time) (ticksOf other) ⌝ }
 {
-    if is_earlier(time, other) {
-        return other - time;
+    let ticks = quantity::instant_of(time).0;
+    let other_ticks = quantity::instant_of(other).0;
+    if ticks < other_ticks {
+        return other_ticks - ticks;
     }
-    time - other
+    ticks - other_ticks
 }
 
 // Whether a list falls: some time in it is earlier than the one before.
-fn has_fall(times: &[u32]) -> bool
-    ensures { λ r. ⌜ r ≡ falls (now (times .entry)) ⌝ }
+fn has_fall(times: &[i32]) -> bool
+    ensures { λ r. ⌜ r ≡ falls (instants (now (times .entry))) ⌝ }
 {
     let mut i = 1;
     while i < times.len() {
@@ -48,8 +51,8 @@ fn has_fall(times: &[u32]) -> bool
 }
 
 // Whether a list is refused with the marks that are lent for it.
-fn is_unfit(times: &[u32], marks: &[u16]) -> bool
-    ensures { λ r. ⌜ r ≡ unfit (now (times .entry)) (now (marks .entry)) ⌝ }
+fn is_unfit(times: &[i32], marks: &[u16]) -> bool
+    ensures { λ r. ⌜ r ≡ unfit (instants (now (times .entry))) (now (marks .entry)) ⌝ }
 {
     if MOST_ENTRIES < times.len() {
         return true;
@@ -82,17 +85,17 @@ fn mark_of(place: usize) -> u16
 // Pairs the first movement and the first peak that are left where the tolerance allows it, and leaves the earlier of the two unpaired otherwise:
 // it is too early for all that follow in the other list.
 fn pair_all(
-    movements: &[u32],
-    peaks: &[u32],
+    movements: &[i32],
+    peaks: &[i32],
     tolerance: u32,
     movement_marks: &mut [u16],
     peak_marks: &mut [u16],
 ) -> u16
-    requires fit { ⌜ (unfit (now movements) (now «movement_marks») ≡ false) × (unfit (now peaks) (now «peak_marks») ≡ false) ⌝ }
+    requires fit { ⌜ (unfit (instants (now movements)) (now «movement_marks») ≡ false) × (unfit (instants (now peaks)) (now «peak_marks») ≡ false) ⌝ }
     requires clear { ⌜ (now «movement_marks» ≡ replicate (length (now «movement_marks»)) 0) × (now «peak_marks» ≡ replicate (length (now «peak_marks»)) 0) ⌝ }
     ensures { λ r.
         ⌜
-        Largest (now (movements .entry)) (now (peaks .entry)) tolerance
+        Largest (instants (now (movements .entry))) (instants (now (peaks .entry))) tolerance
         (record { movements = now («movement_marks» .exit); peaks = now («peak_marks» .exit) })
         r
         ⌝ }
@@ -120,18 +123,18 @@ fn pair_all(
     count
 }
 
-// Pairs movements with peaks that are no further apart than the tolerance, each at most once, and as many as can be. Times and tolerance are in ticks.
-// An entry's mark is its partner's place counted from 1, or 0 where it is unpaired.
+// Pairs movements with peaks that are no further apart than the tolerance, each at most once, and as many as can be. Times are in ticks after midnight,
+// negative before it, and the tolerance is in ticks. An entry's mark is its partner's place counted from 1, or 0 where it is unpaired.
 pub fn pair_movements(
-    movements: &[u32],
-    peaks: &[u32],
+    movements: &[i32],
+    peaks: &[i32],
     tolerance: u32,
     movement_marks: &mut [u16],
     peak_marks: &mut [u16],
 ) -> PairingAnswer
     ensures { λ r.
         ⌜
-        Answered (now (movements .entry)) (now (peaks .entry)) tolerance
+        Answered (instants (now (movements .entry))) (instants (now (peaks .entry))) tolerance
         (record { movements = now («movement_marks» .entry); peaks = now («peak_marks» .entry) })
         (pairingReading r)
         (record { movements = now («movement_marks» .exit); peaks = now («peak_marks» .exit) })

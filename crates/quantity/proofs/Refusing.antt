@@ -68,7 +68,7 @@ passes (r ∷ rs) h = rw (h .0) (passes rs (h .1))
 -- a refusal has a number
 pub refusal-positive : (r : Refusal) → 0 < refusalNumber r
 refusal-positive refusals.SampleCount = lit< tt
-refusal-positive refusals.WindowPastDayEnd = lit< tt
+refusal-positive refusals.OutsideDay = lit< tt
 refusal-positive refusals.ClassNotInBook = lit< tt
 refusal-positive refusals.LevelTooHigh = lit< tt
 refusal-positive refusals.Weather = lit< tt

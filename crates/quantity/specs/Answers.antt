@@ -35,7 +35,7 @@ methodNumber Two = 2
 -- 'Refused calls': what is returned; document 02 adds 18 (W-202) and 19 (W-203)
 abbrev pub refusalNumber : Refusal → ℕ
 refusalNumber refusals.SampleCount = 1
-refusalNumber refusals.WindowPastDayEnd = 2
+refusalNumber refusals.OutsideDay = 2
 refusalNumber refusals.ClassNotInBook = 3
 refusalNumber refusals.LevelTooHigh = 4
 refusalNumber refusals.Weather = 5

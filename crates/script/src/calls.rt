@@ -6,7 +6,7 @@ use script_text::words;
 use script_text::words::Words;
 
 // A call has at most this many numbers, and at most this many records.
-const MOST_NUMBERS: usize = 24016;
+pub const MOST_NUMBERS: usize = 24016;
 
 const MOST_RECORDS: usize = 400;
 
@@ -33,12 +33,27 @@ const FIRST_DAYTIME_TICK: u32 = 216000;
 
 const LAST_DAYTIME_TICK: u32 = 791999;
 
-// Opens a day in words that are 0, so that a refused opening leaves a day of no class. The flights by day are the numbers from a place on.
-fn open(
-    day: &mut [u32; 320],
+// What a day is opened with beside its book.
+struct Opening {
     rate: u32,
     first: u32,
     last: u32,
+    end: i32,
+}
+
+// The end where the day before has no stretch. A rate that is not listed here is refused, whatever the end is.
+fn no_end(rate: u32) -> i32 {
+    match rate {
+        10 => -6000,
+        20 => -12000,
+        _ => -24000,
+    }
+}
+
+// Opens a day in words that are 0, so that a refused opening leaves a day of no class. The flights by day are the numbers from a place on.
+fn open(
+    day: &mut [u32; 320],
+    opening: Opening,
     numbers: &[u32],
     from: usize,
     words: Words,
@@ -48,9 +63,10 @@ fn open(
     *day = [0u32; 320];
     answered(c_interface::moatburdock_open_day(
         day,
-        rate,
-        first,
-        last,
+        opening.rate,
+        opening.first,
+        opening.last,
+        opening.end,
         words::numbers_part(&flights, from, words.slash),
         words::numbers_part(&flights, words.slash, words.count),
     ))
@@ -58,23 +74,41 @@ fn open(
 
 // book DAY FLIGHTS / NIGHT FLIGHTS: with the settings of document 01
 fn open_before(day: &mut [u32; 320], numbers: &[u32], words: Words) -> Text {
-    open(
-        day,
-        RATE,
-        FIRST_DAYTIME_TICK,
-        LAST_DAYTIME_TICK,
-        numbers,
-        0,
-        words,
-    )
+    let opening = Opening {
+        rate: RATE,
+        first: FIRST_DAYTIME_TICK,
+        last: LAST_DAYTIME_TICK,
+        end: no_end(RATE),
+    };
+    open(day, opening, numbers, 0, words)
 }
 
 // terminal RATE FIRST LAST DAY FLIGHTS / NIGHT FLIGHTS
 fn open_terminal(day: &mut [u32; 320], numbers: &[u32], words: Words) -> Text {
     let rate = words::number_at(numbers, 0);
-    let first = words::number_at(numbers, 1);
-    let last = words::number_at(numbers, 2);
-    open(day, rate, first, last, numbers, 3, words)
+    let opening = Opening {
+        rate,
+        first: words::number_at(numbers, 1),
+        last: words::number_at(numbers, 2),
+        end: no_end(rate),
+    };
+    open(day, opening, numbers, 3, words)
+}
+
+// after END RATE FIRST LAST DAY FLIGHTS / NIGHT FLIGHTS: with the end of the day before
+fn open_after(day: &mut [u32; 320], numbers: &[u32], words: Words) -> Text {
+    let opening = Opening {
+        rate: words::number_at(numbers, 1),
+        first: words::number_at(numbers, 2),
+        last: words::number_at(numbers, 3),
+        end: words::signed(words::number_at(numbers, 0)),
+    };
+    open(day, opening, numbers, 4, words)
+}
+
+// next: the end to open the next day with
+fn end_for_next_day(day: &[u32; 320]) -> Text {
+    answers::with_signed(answered(0), c_interface::moatburdock_end_for_next_day(day))
 }
 
 // offer START CLASS WIND WET BACKGROUND / SAMPLES
@@ -85,7 +119,7 @@ fn offer(day: &mut [u32; 320], numbers: &[u32], words: Words) -> Text {
     let mut lmax = 0;
     let answer = c_interface::moatburdock_offer(
         day,
-        words::number_at(numbers, 0),
+        words::signed(words::number_at(numbers, 0)),
         words::in_8_bits(words::number_at(numbers, 1)),
         words::in_16_bits(words::number_at(numbers, 2)),
         words::number_at(numbers, 3) != 0,
@@ -245,6 +279,8 @@ pub fn make(day: &mut [u32; 320], call: &[u8]) -> Text {
     match letter {
         b'b' => open_before(day, &numbers, words),
         b't' => open_terminal(day, &numbers, words),
+        b'a' => open_after(day, &numbers, words),
+        b'n' => end_for_next_day(day),
         b'o' => offer(day, &numbers, words),
         b'c' => close(day, &numbers),
         b'h' => highest_by_class(day, &numbers),

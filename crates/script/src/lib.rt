@@ -4,7 +4,8 @@
 //     LABEL: CALL WORDS = ANSWER          a call; answers that are right are separated by '|', and one that is plausible and wrong stands behind ', not'
 //     TEXT                                a line without ':' is a heading
 //
-// In a call 8000*3 stands for 8000 8000 8000. The calls are told by their first letter: book, terminal, offer, close, highest, week, year, rewrite, verdict, land, pair.
+// In a call 8000*3 stands for 8000 8000 8000, and -6000 for that number in 32 bits, two's complement. The calls are told by their first letter: book,
+// terminal, after, next, offer, close, highest, week, year, rewrite, verdict, land, pair.
 ghost use mathlib.Core.Path.{_≡_};
 ghost use Prim.Native.Nat.{_≤_};
 ghost use lib.ListN.{length};

@@ -1,5 +1,6 @@
 // The call `pair` of a script, made through the function that C calls.
 ghost use Prim.Native.Nat.{_≤_};
+use crate::calls;
 use script_text::answers;
 use script_text::answers::Text;
 use script_text::words;
@@ -47,6 +48,7 @@ fn answered(answer: u8, count: u16, movement_marks: &[u16], peak_marks: &[u16]) 
 // Makes the call with marks at the front of those that are there.
 fn pair_in(
     numbers: &[u32],
+    times: &[i32],
     words: Words,
     movement_room: &mut [u16],
     peak_room: &mut [u16],
@@ -55,8 +57,8 @@ fn pair_in(
     let peak_count = at_most(words::number_at(numbers, 2) as usize, peak_room.len());
     let mut count = 0;
     let answer = c_interface::moatburdock_pair_movements(
-        words::ticks_part(numbers, 3, words.slash),
-        words::ticks_part(numbers, words.slash, words.count),
+        words::ticks_part(times, 3, words.slash),
+        words::ticks_part(times, words.slash, words.count),
         words::number_at(numbers, 0),
         &mut movement_room[..movement_count],
         &mut peak_room[..peak_count],
@@ -72,7 +74,9 @@ fn pair_in(
 
 // pair TOLERANCE MARKS MARKS MOVEMENTS / PEAKS: so many marks are lent for the movements, and so many for the peaks
 pub fn pair(numbers: &[u32], words: Words) -> Text {
+    let mut times = [0i32; calls::MOST_NUMBERS];
+    words::copy_signed(numbers, &mut times);
     let mut movement_room = [BEFORE; MOST_MARKS];
     let mut peak_room = [BEFORE; MOST_MARKS];
-    pair_in(numbers, words, &mut movement_room, &mut peak_room)
+    pair_in(numbers, &times, words, &mut movement_room, &mut peak_room)
 }

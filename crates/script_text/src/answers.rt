@@ -86,13 +86,17 @@ fn size(n: i32) -> u64 {
     if n < 0 { (-1 - n) as u64 + 1 } else { n as u64 }
 }
 
+pub fn with_signed(text: Text, n: i32) -> Text {
+    if n < 0 {
+        return with_digits(with_bytes(text, b" -"), size(n));
+    }
+    with_number(text, size(n))
+}
+
 // A margin; the largest number stands for none.
 pub fn with_margin(text: Text, margin: i32) -> Text {
     if margin == 2147483647 {
         return with_bytes(text, b" none");
     }
-    if margin < 0 {
-        return with_digits(with_bytes(text, b" -"), size(margin));
-    }
-    with_number(text, size(margin))
+    with_signed(text, margin)
 }

@@ -1,4 +1,5 @@
-// The words of a line: places of bytes, parts of runs, and numbers in decimal. Every function here takes any bytes and any places.
+// The words of a line: places of bytes, parts of runs, and numbers in decimal. A number is held in 32 bits, a negative one in two's complement. Every
+// function here takes any bytes and any places.
 ghost use mathlib.Core.Path.{_≡_};
 ghost use Prim.Native.Nat.{_+_, min};
 
@@ -11,13 +12,14 @@ pub struct Words {
     pub slash: usize,
 }
 
-// How far a call is read: its numbers so far, the number whose digits are read, if any, and how often it stands there: in 8000*3 the digits behind '*'
-// are those of the number of times.
+// How far a call is read: its numbers so far, and the word that is read, if any: its digits, whether it has some, whether '-' stands before them, and how
+// often the number stands there: in 8000*3 the digits behind '*' are those of the number of times.
 struct Scan {
     count: usize,
     slash: usize,
     value: u32,
-    inside: bool,
+    digits: bool,
+    negative: bool,
     repeated: u32,
     repeats: bool,
 }
@@ -43,7 +45,7 @@ pub fn numbers_part(numbers: &[u16], from: usize, to: usize) -> &[u16] {
 }
 
 // Of ticks.
-pub fn ticks_part(ticks: &[u32], from: usize, to: usize) -> &[u32] {
+pub fn ticks_part(ticks: &[i32], from: usize, to: usize) -> &[i32] {
     if to <= ticks.len() {
         if from <= to {
             return &ticks[from..to];
@@ -126,24 +128,36 @@ fn is_digit(byte: u8) -> bool {
     byte <= b'9'
 }
 
+// The number of a word: '-' alone is NONE, and before digits it is their number taken from 0.
+fn number_of(scan: Scan) -> u32 {
+    if !scan.negative {
+        return scan.value;
+    }
+    if !scan.digits {
+        return NONE;
+    }
+    std::num::wrapping_sub_u32(0, scan.value)
+}
+
 // The count after the end of a word.
 fn ended(scan: Scan, numbers: &mut [u32]) -> usize {
-    if !scan.inside {
-        return scan.count;
-    }
     if scan.repeats {
         return put_times(numbers, scan.count, scan.repeated, scan.value);
     }
-    put_number(numbers, scan.count, scan.value)
+    if scan.digits || scan.negative {
+        return put_number(numbers, scan.count, number_of(scan));
+    }
+    scan.count
 }
 
-// Between two words.
-fn between(count: usize, slash: usize) -> Scan {
+// Between two words, or behind the '-' of one.
+fn between(count: usize, slash: usize, negative: bool) -> Scan {
     Scan {
         count,
         slash,
         value: 0,
-        inside: false,
+        digits: false,
+        negative,
         repeated: 0,
         repeats: false,
     }
@@ -156,7 +170,8 @@ fn scanned(scan: Scan, byte: u8, numbers: &mut [u32]) -> Scan {
             count: scan.count,
             slash: scan.slash,
             value: with_digit(scan.value, byte),
-            inside: true,
+            digits: true,
+            negative: scan.negative,
             repeated: scan.repeated,
             repeats: scan.repeats,
         };
@@ -166,24 +181,22 @@ fn scanned(scan: Scan, byte: u8, numbers: &mut [u32]) -> Scan {
             count: scan.count,
             slash: scan.slash,
             value: 0,
-            inside: true,
-            repeated: scan.value,
+            digits: false,
+            negative: false,
+            repeated: number_of(scan),
             repeats: true,
         };
     }
     let count = ended(scan, numbers);
-    if byte == b'-' {
-        return between(put_number(numbers, count, NONE), scan.slash);
-    }
     if byte == b'/' {
-        return between(count, count);
+        return between(count, count, false);
     }
-    between(count, scan.slash)
+    between(count, scan.slash, byte == b'-')
 }
 
 // Reads the numbers of a call, '-' as NONE, and 8000*3 as 8000 8000 8000.
 pub fn read_words(call: &[u8], numbers: &mut [u32]) -> Words {
-    let mut scan = between(0, 0);
+    let mut scan = between(0, 0, false);
     let mut i = 0;
     while i < call.len() {
         let next = scanned(scan, byte_at(call, i), numbers);
@@ -210,6 +223,23 @@ pub fn copy_numbers(numbers: &[u32], out: &mut [u16]) {
     let mut i = 0;
     while i < out.len() {
         out[i] = in_16_bits(number_at(numbers, i));
+        i += 1;
+    }
+}
+
+// The signed number of 32 bits.
+pub fn signed(n: u32) -> i32 {
+    if n < 2147483648 {
+        return n as i32;
+    }
+    (n as i64 - 4294967296) as i32
+}
+
+// Copies signed numbers, 0 behind the last.
+pub fn copy_signed(numbers: &[u32], out: &mut [i32]) {
+    let mut i = 0;
+    while i < out.len() {
+        out[i] = signed(number_at(numbers, i));
         i += 1;
     }
 }

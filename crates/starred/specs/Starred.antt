@@ -7,6 +7,7 @@ use Prim.Native.Nat.{ℕ, zero, suc, _+_}
 use lib.IntN.{ℤ, pos, negℤ}
 use lib.ListN.{length, replicate}
 use Rattle.quantity.specs.Answers.{Reading, level, below-scale}
+use Rattle.quantity.specs.Instants.{instantOf}
 use Rattle.quantity.specs.Rules.{Outcome, given}
 use Rattle.power.specs.Power.{m}
 use Rattle.exposure.specs.Exposure.{exposureOf}
@@ -80,7 +81,7 @@ AllHold (r ∷ rs) = (answer (r .question) ≡ r .expected) × AllHold rs
 abbrev pub oneClass : ℕ → ℕ → Book
 oneClass daytime night = record { daytime = daytime ∷ []; night = night ∷ [] }
 
--- the five samples of the example, and so many events of them, the first at a start and each behind the one before
+-- the five samples of the example, and so many events of them, the first at a start in ticks after midnight and each behind the one before
 abbrev pub fiveSamples : List ℕ
 fiveSamples = 6000 ∷ 8000 ∷ 8000 ∷ 8000 ∷ 6000 ∷ []
 
@@ -88,7 +89,7 @@ abbrev pub flyover : (start : ℕ) → Offering
 flyover start =
     record {
       recording =
-          record { start = record { 0 = start }; class = 0; wind = 30; wet = false; background = record { 0 = 6000 } };
+          record { start = instantOf (pos start); class = 0; wind = 30; wet = false; background = record { 0 = 6000 } };
       samples = fiveSamples;
     }
 

@@ -2,6 +2,7 @@
 use mathlib.Core.Path.{_≡_, sym, _∙_}
 use mathlib.Core.Bool.{false}
 use denote.Ref.{now}
+use Rattle.pairing.specs.Pairing.{instants}
 use Rattle.pairing.specs.Answers.{unfit}
 use Rattle.pairing.proofs.Answering.{unfit-movements, unfit-peaks, ready, answered}
 use borrow.Author.Needs.{needs}
@@ -15,10 +16,10 @@ returns-2 : tie.Need-returns-2
 returns-2 c = unfit-peaks (sym (c .before .is-unfit2 .ensures) ∙ c .if2 .taken)
 
 -- neither list is refused where the marks are cleared
-fit-movements : (c : tie.Else2) → let a = c .before .before .before .before .before .before .before .before .before .before .args in unfit (now (a .movements)) (now (a .movement-marks)) ≡ false
+fit-movements : (c : tie.Else2) → let a = c .before .before .before .before .before .before .before .before .args in unfit (instants (now (a .movements))) (now (a .movement-marks)) ≡ false
 fit-movements c = let e = c .before .before .before in sym (e .before .is-unfit .ensures) ∙ e .if1 .left
 
-fit-peaks : (c : tie.Else2) → let a = c .before .before .before .before .before .before .before .before .before .before .args in unfit (now (a .peaks)) (now (a .peak-marks)) ≡ false
+fit-peaks : (c : tie.Else2) → let a = c .before .before .before .before .before .before .before .before .args in unfit (instants (now (a .peaks))) (now (a .peak-marks)) ≡ false
 fit-peaks c = sym (c .before .is-unfit2 .ensures) ∙ c .if2 .left
 
 pair-all-requires : tie.Need-pair-all-requires
