@@ -9,7 +9,7 @@ use borrow.Author.Tests.{le-ltb, ltb-false}
 use lib.Dec.{ltb, lit<}
 use lib.ListN.{length}
 use Rattle.quantity.specs.Instants.{midnight, instantAt}
-use Rattle.quantity.specs.Rules.{firstOf, refused, outcome, follow}
+use Rattle.quantity.specs.Rules.{firstOf, refused, outcome}
 use Rattle.quantity.specs.declared.Instant.{Instant}
 use Rattle.quantity.proofs.Refusing.{stops}
 use Rattle.quantity.proofs.Tests.{test, neither}
@@ -21,12 +21,12 @@ use Rattle.event.specs.Stretch.{stretchFirst}
 use Rattle.event.specs.Event.{eventOf}
 use Rattle.event.specs.declared.Event.{Event}
 use Rattle.event.proofs.Whole.{in-window, peak-inside}
-use Rattle.ledger.specs.Day.{Opening, openedDay, periodOf, withPeriod, Answered}
+use Rattle.ledger.specs.Day.{Opening, openedDay, periodOf}
 use Rattle.ledger.specs.declared.Day.{Day}
 use Rattle.admission.specs.Checks.{Offering, dayChecks, inDaytime}
 use Rattle.admission.specs.declared.Recording.{Recording}
 use Rattle.exposure.specs.Exposure.{energyOf}
-use Rattle.offering.specs.Offer.{Accepted, offered, admitted, entered, withEvent, raised, raisedInClass}
+use Rattle.offering.specs.Offer.{enteredIn, entered, offeredBy, offered}
 use Rattle.method.specs.Method.{countsOf}
 use Rattle.closing.specs.Close.{Closed, closeRules, closingOf, classesGiven, dayClosed}
 use Rattle.accuracy.specs.Tally.{Call, offering, closing}
@@ -61,23 +61,10 @@ same-period d end true = refl
 same-period d end false = refl
 
 -- an accepted event leaves the same day, since its own end takes the place of the other
-abbrev enteredIn : Day → Recording → Event → ℕ → Bool → Day
-enteredIn day r v S p =
-    let next = withPeriod day p (withEvent (periodOf day p) (r .class) S) in
-    record {
-      settings = day .settings;
-      classes = next .classes;
-      daytime = next .daytime;
-      night = next .night;
-      end = instantAt (r .start .0 + v .stretch .end);
-      highest = raised (next .highest) (v .lmax);
-      «highest_by_class» = raisedInClass (next .«highest_by_class») (r .class) (v .lmax);
-    }
-
 same-entered : (d : Day) (end : Instant) (r : Recording) (v : Event) (S : ℕ) → entered (atEnd d end) r v S ≡ entered d r v S
 same-entered d end r v S = go (inDaytime (d .settings) r v)
   where
-    go : (p : Bool) → enteredIn (atEnd d end) r v S p ≡ enteredIn d r v S p
+    go : (p : Bool) → enteredIn p (atEnd d end) r v S ≡ enteredIn p d r v S
     go true = refl
     go false = refl
 
@@ -91,10 +78,6 @@ same-closed d end before after = by-number (firstOf (closeRules before after (co
     by-number : (n : ℕ) → closedBy (atEnd d end) n ≡ closedBy d n
     by-number zero = refl
     by-number (suc n) = refl
-
--- what comes of an offer, by the number of the first rule that refuses it
-abbrev comesBy : Day → Offering → ℕ → Answered Accepted
-comesBy day o n = follow (outcome n (admitted day o)) (λ k. record { day = day; answer = refused k }) (λ next. next)
 
 -- an offer now and then
 module _ (d : Day) (end : Instant) (alike : Alike end (d .end)) (o : Offering) where
@@ -141,12 +124,12 @@ module _ (d : Day) (end : Instant) (alike : Alike end (d .end)) (o : Offering) w
   was-positive t = test (countWrong rate n) (λ w. rw (was-wrong-count w) (lit< tt)) (λ f. rw (was-refused f t) (lit< tt))
 
   -- the days after it
-  both-refused : (a b : ℕ) → 0 < a → 0 < b → Kept (comesBy (atEnd d end) o a .day) (comesBy d o b .day)
+  both-refused : (a b : ℕ) → 0 < a → 0 < b → Kept (offeredBy a (atEnd d end) o .day) (offeredBy b d o .day)
   both-refused zero b p q = absurd (omega arith)
   both-refused (suc a) zero p q = absurd (omega arith)
   both-refused (suc a) (suc b) p q = record { end = end; same = refl; alike = alike }
 
-  both-by : (k : ℕ) → Kept (comesBy (atEnd d end) o k .day) (comesBy d o k .day)
+  both-by : (k : ℕ) → Kept (offeredBy k (atEnd d end) o .day) (offeredBy k d o .day)
   both-by zero =
       let v = eventOf (o .samples) in
       record { end = instantAt (start + v .stretch .end); same = same-entered d end (o .recording) v (energyOf (o .samples)); alike = λ t h. refl }
@@ -156,10 +139,10 @@ module _ (d : Day) (end : Instant) (alike : Alike end (d .end)) (o : Offering) w
   kept-offer none =
       test (wasOutside d o)
       (λ t. both-refused (firstOf (dayChecks (atEnd d end) o)) (firstOf (checksBefore d o)) (none t) (was-positive t))
-      (λ f. subst (λ k. Kept (comesBy (atEnd d end) o k .day) (offeredBefore d o .day)) (sym (same-number f)) (both-by (firstOf (checksBefore d o))))
+      (λ f. subst (λ k. Kept (offeredBy k (atEnd d end) o .day) (offeredBefore d o .day)) (sym (same-number f)) (both-by (firstOf (checksBefore d o))))
 
   -- its answer
-  answer-by : (k : ℕ) → comesBy (atEnd d end) o k .answer ≡ comesBy d o k .answer
+  answer-by : (k : ℕ) → offeredBy k (atEnd d end) o .answer ≡ offeredBy k d o .answer
   answer-by zero = refl
   answer-by (suc k) = refl
 
@@ -167,9 +150,9 @@ module _ (d : Day) (end : Instant) (alike : Alike end (d .end)) (o : Offering) w
   kept-answer other =
       test (wasOutside d o)
       (λ t. test (countWrong rate n)
-      (λ w. ap (λ k. comesBy (atEnd d end) o k .answer) (wrong-count w) ∙ sym (ap (λ k. comesBy d o k .answer) (was-wrong-count w)))
-      (λ f. absurd (other (ap (λ k. comesBy d o k .answer) (was-refused f t)))))
-      (λ f. ap (λ k. comesBy (atEnd d end) o k .answer) (same-number f) ∙ answer-by (firstOf (checksBefore d o)))
+      (λ w. ap (λ k. offeredBy k (atEnd d end) o .answer) (wrong-count w) ∙ sym (ap (λ k. offeredBy k d o .answer) (was-wrong-count w)))
+      (λ f. absurd (other (ap (λ k. offeredBy k d o .answer) (was-refused f t)))))
+      (λ f. ap (λ k. offeredBy k (atEnd d end) o .answer) (same-number f) ∙ answer-by (firstOf (checksBefore d o)))
 
 -- over lists of calls
 kept-call : {now then : Day} → Kept now then → (o : Offering) → (wasOutside now o ≡ true → 0 < firstOf (dayChecks now o))

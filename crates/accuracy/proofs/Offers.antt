@@ -9,7 +9,7 @@ use borrow.Author.Tests.{leb-false, eqb-false}
 use lib.Dec.{leb, eqb}
 use lib.ListN.{length, getD, set, length-set}
 use Rattle.quantity.specs.Limits.{highestSample}
-use Rattle.quantity.specs.Rules.{Rule, firstOf, refused, outcome, follow}
+use Rattle.quantity.specs.Rules.{Rule, firstOf, outcome, follow}
 use Rattle.quantity.specs.declared.HighestLevel.{HighestLevel}
 use Rattle.power.specs.Power.{e}
 use Rattle.limbs.proofs.Digits.{limbsOf-add}
@@ -22,9 +22,9 @@ use Rattle.exposure.specs.Exposure.{energyOf}
 use Rattle.exposure.proofs.Accuracy.{exposure-accurate}
 use Rattle.event.proofs.Whole.{in-window, peak-inside}
 use Rattle.ledger.specs.Book.{mostClasses}
-use Rattle.ledger.specs.Day.{periodOf, withPeriod, Answered}
+use Rattle.ledger.specs.Day.{periodOf, withPeriod}
 use Rattle.admission.specs.Checks.{Offering, dayChecks, usedUp}
-use Rattle.offering.specs.Offer.{Accepted, offered, admitted, withEvent, entered, raised, raisedInClass}
+use Rattle.offering.specs.Offer.{offeredBy, offered, withEvent, entered, raised, raisedInClass}
 use Rattle.ledger.specs.declared.Period.{Period}
 use Rattle.ledger.specs.declared.ClassHighest.{ClassHighest}
 use Rattle.ledger.specs.declared.Day.{Day}
@@ -158,25 +158,20 @@ module _ {t : Tally} (b : Bounded t) (o : Offering) (free : firstOf (tallyChecks
             (omega (arith, b .energy, mul-le-mul-left (e highestSample) (le-trans (last-by (t .stretches) (b .apart)) (a .after)), stretch-energy highestSample s (a .level)));
       }
 
--- what comes of an offer, by the number that the tally's rules give
-abbrev answerBy : Tally → Offering → ℕ → Answered Accepted
-answerBy t o n =
-    follow (outcome n (admitted (dayOfTally t) o)) (λ k. record { day = dayOfTally t; answer = refused k }) (λ next. next)
-
 module _ {t : Tally} (b : Bounded t) (o : Offering) where
-  offered-same : offered (dayOfTally t) o ≡ answerBy t o (firstOf (tallyChecks t o))
-  offered-same = ap (λ (rules : List Rule). answerBy t o (firstOf rules)) (checks-same b o)
+  offered-same : offered (dayOfTally t) o ≡ offeredBy (firstOf (tallyChecks t o)) (dayOfTally t) o
+  offered-same = ap (λ (rules : List Rule). offeredBy (firstOf rules) (dayOfTally t) o) (checks-same b o)
 
   pub offer-keeps : Agrees (tallied t (offering o)) (offered (dayOfTally t) o .day)
   offer-keeps = rw offered-same (by-number (firstOf (tallyChecks t o)) refl)
     where
-      by-number : (n : ℕ) → firstOf (tallyChecks t o) ≡ n → Agrees (follow (outcome n (joined t o)) (λ k. t) (λ next. next)) (answerBy t o n .day)
+      by-number : (n : ℕ) → firstOf (tallyChecks t o) ≡ n → Agrees (follow (outcome n (joined t o)) (λ k. t) (λ next. next)) (offeredBy n (dayOfTally t) o .day)
       by-number zero h = record { same = joined-same b o h; bounded = joined-bounded b o h }
       by-number (suc n) h = record { same = refl; bounded = b }
 
   pub offer-demanded : (K : ℕ) → OfferDemanded K t o (offered (dayOfTally t) o .answer)
   offer-demanded K = rw offered-same (by-number (firstOf (tallyChecks t o)) refl)
     where
-      by-number : (n : ℕ) → firstOf (tallyChecks t o) ≡ n → OfferDemanded K t o (answerBy t o n .answer)
+      by-number : (n : ℕ) → firstOf (tallyChecks t o) ≡ n → OfferDemanded K t o (offeredBy n (dayOfTally t) o .answer)
       by-number zero h = (h, refl, exposure-accurate K (t .settings .rate) (o .samples))
       by-number (suc n) h = (h, omega arith)

@@ -7,13 +7,13 @@ use Prim.Native.Nat.{ℕ, _+_, _≤_, _<_}
 use lib.Dec.{ltb}
 use lib.ListN.{length}
 use Rattle.quantity.specs.Instants.{midnight}
-use Rattle.quantity.specs.Rules.{Rule, firstOf, refused, outcome, follow}
+use Rattle.quantity.specs.Rules.{Rule, firstOf, refused}
 use Rattle.clock.specs.Clock.{dayEnd}
 use Rattle.clock.specs.declared.Rate.{Rate}
 use Rattle.ledger.specs.Day.{Opening, openingOf, openRules, openedDay, Answered}
 use Rattle.ledger.specs.declared.Day.{Day}
 use Rattle.admission.specs.Checks.{Offering, dayChecks}
-use Rattle.offering.specs.Offer.{Accepted, offered, admitted}
+use Rattle.offering.specs.Offer.{Accepted, offeredBy, offered}
 use Rattle.closing.specs.Close.{dayClosed}
 use Rattle.accuracy.specs.Tally.{Call, offering, closing}
 use Rattle.accuracy.specs.Terminal.{dayAfter, dayAfterCalls, dayAfterCallsBy}
@@ -36,8 +36,7 @@ checksBefore day o = withRuleTwo (wasOutside day o) (dayChecks day o)
 
 -- the terminal that answers by it; its fresh day has the end 0
 abbrev pub offeredBefore : Day → Offering → Answered Accepted
-offeredBefore day o =
-    follow (outcome (firstOf (checksBefore day o)) (admitted day o)) (λ n. record { day = day; answer = refused n }) (λ next. next)
+offeredBefore day o = offeredBy (firstOf (checksBefore day o)) day o
 
 abbrev pub openedAtMidnight : Opening → Day
 openedAtMidnight o = openedDay (openingOf (o .rate) (o .first) (o .last) midnight (o .daytime) (o .night))

@@ -20,7 +20,7 @@ use Rattle.level.specs.Level.{levelOf}
 use Rattle.ledger.specs.Book.{mostClasses, sumOf}
 use Rattle.ledger.specs.Day.{openedDay, levelsByClass}
 use Rattle.admission.specs.Checks.{Offering, dayChecks}
-use Rattle.offering.specs.Offer.{Accepted, offered}
+use Rattle.offering.specs.Offer.{Accepted, offeredBy, offered}
 use Rattle.ledger.specs.declared.ClassHighest.{ClassHighest}
 use Rattle.ledger.specs.declared.Day.{Day}
 use Rattle.method.specs.Method.{methodOneHolds, methodBy, countsOf}
@@ -42,7 +42,7 @@ use Rattle.c_interface.proofs.Written.{told-level, record-law, told-highest}
 use Rattle.c_accuracy.specs.Calls.{CCall, offer, close, callOf, lentTo, wordsOf}
 use Rattle.c_accuracy.specs.Demand.{offerSeen, closeSeen, classesSeen, meanSeen, CDemanded, CClaim, Wrote, AllWrote, CMeanClaim, CDemand3}
 use Rattle.c_accuracy.proofs.Told.{told-exposure, told-weighted, sum-most, told-mean}
-use Rattle.c_accuracy.proofs.Held.{Low, AllLow, Reached, offeredBy, whole}
+use Rattle.c_accuracy.proofs.Held.{Low, AllLow, Reached, whole}
 
 -- an outcome that a caller reads as it is: its refusals have numbers, and its values are told
 abbrev Plain : {A : Type 0} → (A → Type 0) → Outcome A → Type 0
@@ -74,7 +74,7 @@ mean-seen lent (given r) h = rw (told-level r h)
 plain-offer : (d : Day) (o : Offering) → Plain (λ a. Told (a .exposure)) (offered d o .answer)
 plain-offer d o = go (firstOf (dayChecks d o)) refl
   where
-    go : (n : ℕ) → firstOf (dayChecks d o) ≡ n → Plain (λ a. Told (a .exposure)) (offeredBy d o n .answer)
+    go : (n : ℕ) → firstOf (dayChecks d o) ≡ n → Plain (λ a. Told (a .exposure)) (offeredBy n d o .answer)
     go zero h = told-exposure (d .settings .rate) o _ _ _ h
     go (suc n) h = omega arith
 

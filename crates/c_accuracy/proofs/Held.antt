@@ -22,7 +22,7 @@ use Rattle.event.specs.Window.{highest}
 use Rattle.ledger.specs.Book.{mostClasses}
 use Rattle.ledger.specs.Day.{Answered, noneInClass, noDay, Opening, openRules, openedDay, periodOf, withPeriod, energyIn, endForNextDay}
 use Rattle.admission.specs.Checks.{Offering, dayChecks, inDaytime}
-use Rattle.offering.specs.Offer.{Accepted, withEvent, raised, raisedInClass, admitted, offered}
+use Rattle.offering.specs.Offer.{withEvent, raised, raisedInClass, admitted, offeredBy, offered}
 use Rattle.ledger.specs.declared.ClassHighest.{ClassHighest}
 use Rattle.ledger.specs.declared.Day.{Day}
 use Rattle.ledger.specs.declared.Period.{Period}
@@ -51,13 +51,10 @@ pub record Reached (d : Day) : Type 0 where
   pub highest : Low (d .highest)
   pub byClass : AllLow (d .«highest_by_class»)
 
--- an opening and an offer by the number of the refusal, 0 where there is none
+-- an opening by the number of the refusal, 0 where there is none
 abbrev openedBy : Opening → ℕ → Answered Unit
 openedBy o n =
     follow (outcome n (openedDay o)) (λ k. record { day = noDay; answer = refused k }) (λ d. record { day = d; answer = given tt })
-
-abbrev pub offeredBy : Day → Offering → ℕ → Answered Accepted
-offeredBy d o n = follow (outcome n (admitted d o)) (λ k. record { day = d; answer = refused k }) (λ a. a)
 
 -- an opening that is not refused leaves the words of the fresh day
 module _ (day : List ℕ) (o : Opening) where
@@ -129,7 +126,7 @@ offered-reached d o r = go (firstOf (dayChecks d o)) refl (offered-fits d o (r .
     entered true = with-energy d (inDaytime (d .settings) (o .recording) (eventOf (o .samples))) (o .recording .class) (energyOf (o .samples)) (r .energy) true
     entered false = with-energy d (inDaytime (d .settings) (o .recording) (eventOf (o .samples))) (o .recording .class) (energyOf (o .samples)) (r .energy) false
 
-    go : (n : ℕ) → firstOf (dayChecks d o) ≡ n → DayFits (offeredBy d o n .day) → Reached (offeredBy d o n .day)
+    go : (n : ℕ) → firstOf (dayChecks d o) ≡ n → DayFits (offeredBy n d o .day) → Reached (offeredBy n d o .day)
     go zero h f =
         record {
           fits = f;
@@ -148,9 +145,9 @@ step : (words : List ℕ) (c : CCall) → Reached (dayFrom words) → dayFrom (w
 step words (close before after lent) r = refl
 step words (offer o exposure lmax) r = go (firstOf (dayChecks (dayFrom words) o)) (offered-fits (dayFrom words) o (r .fits))
   where
-    go : (n : ℕ) → DayFits (offeredBy (dayFrom words) o n .day)
-        → dayFrom (leaves (lentTo words exposure lmax) (offeredBy (dayFrom words) o n .answer) (λ a. record { day = dayWords (offeredBy (dayFrom words) o n .day); exposure = levelNumber (a .exposure); lmax = a .lmax }) .lent .day)
-        ≡ offeredBy (dayFrom words) o n .day
+    go : (n : ℕ) → DayFits (offeredBy n (dayFrom words) o .day)
+        → dayFrom (leaves (lentTo words exposure lmax) (offeredBy n (dayFrom words) o .answer) (λ a. record { day = dayWords (offeredBy n (dayFrom words) o .day); exposure = levelNumber (a .exposure); lmax = a .lmax }) .lent .day)
+        ≡ offeredBy n (dayFrom words) o .day
     go zero f = inverse (admitted (dayFrom words) o .day) f
     go (suc n) f = refl
 
