@@ -30,7 +30,7 @@ fn distance(time: i32, other: i32) -> u32
 {
     let ticks = quantity::instant_of(time).0;
     let other_ticks = quantity::instant_of(other).0;
-    if ticks < other_ticks {
+    if is_earlier(time, other) {
         return other_ticks - ticks;
     }
     ticks - other_ticks
