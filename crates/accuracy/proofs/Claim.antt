@@ -7,7 +7,7 @@ use Rattle.ledger.specs.declared.Day.{Day}
 use Rattle.accuracy.specs.Tally.{Call, offering, closing, Tally, started, tallyOf, tallied, tallyChecks, joined}
 use Rattle.accuracy.specs.Terminal.{dayAfterCalls, dayAfter}
 use Rattle.accuracy.specs.Demand.{Demanded, Claim}
-use Rattle.accuracy.specs.Laws.{Always, SettingsKept, Apart, holders, WithinBook, Highest}
+use Rattle.accuracy.specs.Laws.{Always, SettingsKept, Apart, WithinReach, holders, WithinBook, Highest}
 use Rattle.accuracy.proofs.Held.{at-most-one}
 use Rattle.accuracy.proofs.Highest.{highest-of-tally}
 use Rattle.accuracy.proofs.Agreement.{dayOfTally, Bounded, Agrees, fresh, period-of-tally, book-at, count-at, sum-whole}
@@ -65,7 +65,10 @@ within-book =
       sums = λ p. rw (period-of-tally t p) (sum-whole b p);
     })
 
--- the stretches lie apart, and no instant is counted twice
+-- the stretches lie within reach of the day and apart, and no instant is counted twice
+pub within-reach : Always (λ t day. WithinReach (t .settings .rate) (t .stretches))
+within-reach o h calls = agree o h calls .bounded .within
+
 pub apart : Always (λ t day. Apart (t .end) (t .stretches))
 apart o h calls = agree o h calls .bounded .apart
 
