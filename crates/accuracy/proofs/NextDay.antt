@@ -18,7 +18,7 @@ use Rattle.offering.specs.Offer.{raised}
 use Rattle.accuracy.specs.Tally.{Call, offering, closing, Held, Tally, started, tallyOf, tallied, tallyChecks, joined}
 use Rattle.accuracy.specs.Terminal.{CalledDay, dayOf, tallyIn, heldIn, rateIn}
 use Rattle.accuracy.specs.Laws.{Always, Apart, WithinReach}
-use Rattle.accuracy.specs.NextDay.{onDayBefore, OneDayLaw, EndGiven, GivesEnd, InRow, later, heldInRow, endOfRow, RowLaw}
+use Rattle.accuracy.specs.NextDay.{onDayBefore, OneDayLaw, IsEndAfter, GivesEnd, InRow, later, heldInRow, endOfRow, RowLaw}
 use Rattle.accuracy.proofs.Held.{at-most-one, lastEnd, last-within, apart-later, apart-last}
 use Rattle.accuracy.proofs.Windows.{admits}
 use Rattle.accuracy.proofs.Agreement.{highestOfStretches, EndsWith, Bounded}
@@ -35,16 +35,14 @@ counted-end : (highest : HighestLevel) (l : Level) (rate : Rate) (end : ℕ) →
 counted-end highests.Nothing l rate end = refl
 counted-end (highests.At h) l rate end = refl
 
-given-end : (t : Tally) (hs : List Held) → EndsWith (t .end) hs → Apart (t .end) hs → WithinReach (t .settings .rate) hs
-    → EndGiven (endCounted (highestOfStretches hs) (t .settings .rate) (t .end)) t hs
-given-end t [] l a w = refl
-given-end t (h ∷ hs) l a w =
-    let rate = t .settings .rate in
-    rw (counted-end (highestOfStretches hs) _ rate (t .end)) (omega (arith, l, a .1, w .0 .0, rate-most rate))
+given-end : (rate : Rate) (end : ℕ) (hs : List Held) → EndsWith end hs → Apart end hs → WithinReach rate hs
+    → IsEndAfter rate hs (endCounted (highestOfStretches hs) rate end)
+given-end rate end [] l a w = refl
+given-end rate end (h ∷ hs) l a w = rw (counted-end (highestOfStretches hs) _ rate end) (omega (arith, l, a .1, w .0 .0, rate-most rate))
 
 -- the end that a day gives is that of its last stretch
 pub gives-end : Always GivesEnd
-gives-end = always GivesEnd (λ t b. given-end t (t .stretches) (b .last) (b .apart) (b .within))
+gives-end = always GivesEnd (λ t b. given-end (t .settings .rate) (t .end) (t .stretches) (b .last) (b .apart) (b .within))
 
 -- each stretch begins at the end that the day was opened with, or later
 record Since (end : ℕ) (t : Tally) : Type 0 where
@@ -85,14 +83,14 @@ module _ (d : CalledDay) where
   since : Each (λ h. d .opening .end ≤ h .from) (heldIn d)
   since = since-calls {end = d .opening .end} {t = started (d .opening)} (record { reached = omega arith; each = tt }) (d .calls) .each
 
-  ends : EndGiven (endForNextDay (dayOf d) .0) (tallyIn d) (heldIn d)
-  ends = gives-end (d .opening) (d .opens) (d .calls)
+  ends : IsEndAfter (rateIn d) (heldIn d) (endForNextDay (dayOf d) .0)
+  ends = rw same-rate at (gives-end (d .opening) (d .opens) (d .calls))
 
 -- the end that is given, counted from midnight again, is no earlier than the last stretch, and no later than the earliest start of the day after
-given-between : (rate : Rate) (t : Tally) (end : ℕ) (hs : List Held) → t .settings .rate ≡ rate → EndGiven end t hs → WithinReach rate hs
+given-between : (rate : Rate) (end : ℕ) (hs : List Held) → IsEndAfter rate hs end → WithinReach rate hs
     → (lastEnd hs ≤ dayTicks rate + end) × (end ≤ dayTicks rate + earliestStart rate)
-given-between rate t end [] same g w = (zero-le, omega (arith, rw same at g))
-given-between rate t end (h ∷ hs) same g w = let e = rw same at g in (omega (arith, e), omega (arith, e, w .0 .1, rate-most rate))
+given-between rate end [] g w = (zero-le, omega (arith, g))
+given-between rate end (h ∷ hs) g w = (omega (arith, g), omega (arith, g, w .0 .1, rate-most rate))
 
 -- the same list, so many ticks later
 each-later : (ticks m : ℕ) (hs : List Held) → Each (λ h. m ≤ h .from) hs → Each (λ h. ticks + m ≤ h .from) (map (later ticks) hs)
@@ -133,7 +131,7 @@ apart-row d [] r = apart-later (heldIn d) (last-within (rateIn d) (heldIn d) (wi
 apart-row d (n ∷ ns) r =
     let ticks = dayTicks (rateIn d) in
     let rest = heldInRow n ns in
-    let g = given-between (rateIn d) (tallyIn d) _ (heldIn d) (same-rate d) (ends d) (within d) in
+    let g = given-between (rateIn d) _ (heldIn d) (ends d) (within d) in
     let same = ap samplesASecond (r .1) in
     let begun = row-begins (n .opening .end) n ns (r .2) (since n) (omega (arith, g .1, r .0, same)) in
     apart-append (endOfRow d (n ∷ ns)) (lastEnd (heldIn d)) (map (later ticks) rest) (heldIn d)

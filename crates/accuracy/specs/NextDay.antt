@@ -34,12 +34,12 @@ OneDayLaw =
     → ⊥
 
 -- the end to open the next day with: that of the last stretch that the tally holds, counted from the next midnight, or 600 s before it if there is none
-abbrev pub EndGiven : (end : ℕ) → Tally → List Held → Type 0
-EndGiven end t [] = end ≡ earliestStart (t .settings .rate)
-EndGiven end t (h ∷ hs) = end + dayTicks (t .settings .rate) ≡ h .to
+abbrev pub IsEndAfter : Rate → List Held → (end : ℕ) → Type 0
+IsEndAfter rate [] end = end ≡ earliestStart rate
+IsEndAfter rate (h ∷ hs) end = end + dayTicks rate ≡ h .to
 
 abbrev pub GivesEnd : Tally → Day → Type 0
-GivesEnd t day = EndGiven (endForNextDay day .0) t (t .stretches)
+GivesEnd t day = IsEndAfter (t .settings .rate) (t .stretches) (endForNextDay day .0)
 
 -- each day is opened with the end that the day before gives, at the same rate
 abbrev pub InRow : CalledDay → List CalledDay → Type 0
