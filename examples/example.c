@@ -1,5 +1,5 @@
-/* Opens a day, offers two fly-overs, closes it, forms a year of such days and its verdict, holds the tower's log against the fly-overs, and opens the next
- * day, with a fly-over at midnight. Built and run by examples/run_c. */
+/* Opens a day, offers two fly-overs, closes it, forms a year of such days and its verdict, holds the tower's log against the fly-overs, opens the next day,
+ * with a fly-over at midnight, and asks for the level at thrusts. Built and run by examples/run_c. */
 #include "moatburdock.h"
 
 #include <stdio.h>
@@ -8,6 +8,20 @@ static int failed(const char *call, uint8_t answer) {
     if (answer != 0)
         printf("%s is refused: %u\n", call, answer);
     return answer != 0;
+}
+
+/* The level of an engine at thrusts in kN, from levels in dB that were measured at four of them: between two rows, at the last one and behind it. */
+static int levels_at_thrusts(void) {
+    const double thrusts[] = {40.0, 60.0, 92.3, 120.0}, levels[] = {60.5, 65.3, 70.1, 76.2}, asked[] = {50.0, 120.0};
+    double level = 0.0;
+    for (int i = 0; i < 2; i++) {
+        if (failed("the level", moatburdock_level_at_thrust(thrusts, 4, levels, 4, asked[i], &level)))
+            return 1;
+        printf("at %.1f kN: %.17g dB\n", asked[i], level);
+    }
+    const uint8_t answer = moatburdock_level_at_thrust(thrusts, 4, levels, 4, 130.0, &level);
+    printf("at 130.0 kN: refusal %u, the level is left at %.17g dB\n", answer, level);
+    return answer != MOATBURDOCK_THRUST_OUTSIDE;
 }
 
 int main(void) {
@@ -79,5 +93,5 @@ int main(void) {
 
     printf("a day of 30 samples a second: refusal %u\n", moatburdock_open_day(day, 30, 216000, 791999, -18000, daytime, 2, night, 2));
     printf("a second fly-over at noon: refusal %u\n", moatburdock_offer(day, 432000, 0, 30, false, 6000, samples, 5, &exposure, &lmax));
-    return 0;
+    return levels_at_thrusts();
 }

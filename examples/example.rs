@@ -1,5 +1,5 @@
-// Opens a day, offers two fly-overs, closes it, forms a year of such days, holds the tower's log against the fly-overs, and opens the next day, with a
-// fly-over at midnight. Built and run by examples/run_rust.
+// Opens a day, offers two fly-overs, closes it, forms a year of such days, holds the tower's log against the fly-overs, opens the next day, with a fly-over
+// at midnight, and asks for the level at thrusts. Built and run by examples/run_rust.
 #[link(name = "moatburdock", kind = "static")]
 extern "C" {
     fn moatburdock_open_day(day: *mut u32, rate: u32, first: u32, last: u32, end: i32, daytime: *const u16, classes: usize, night: *const u16,
@@ -11,6 +11,7 @@ extern "C" {
     fn moatburdock_year_mean(records: *const u64, count: usize, level: *mut u32) -> u8;
     fn moatburdock_pair_movements(movements: *const i32, movement_count: usize, peaks: *const i32, peak_count: usize, tolerance: u32,
         movement_marks: *mut u16, movement_mark_count: usize, peak_marks: *mut u16, peak_mark_count: usize, pair_count: *mut u16) -> u8;
+    fn moatburdock_level_at_thrust(thrusts: *const f64, thrust_count: usize, levels: *const f64, level_count: usize, thrust: f64, level: *mut f64) -> u8;
 }
 
 /// A refusal, by its number.
@@ -72,6 +73,27 @@ fn paired(movements: &[i32], peaks: &[i32], tolerance: u32) -> Result<Vec<Option
     Ok(movement_marks.into_iter().map(|mark| (mark != 0).then_some(mark)).collect())
 }
 
+/// The level in dB at a thrust in kN, from those measured at several thrusts.
+fn level_at(thrusts: &[f64], levels: &[f64], thrust: f64) -> Result<f64, Refused> {
+    let mut level = 0.0;
+    checked(unsafe { moatburdock_level_at_thrust(thrusts.as_ptr(), thrusts.len(), levels.as_ptr(), levels.len(), thrust, &mut level) })?;
+    Ok(level)
+}
+
+/// Between two rows, at the last one, behind it, and with a level too few.
+fn show_levels() -> Result<(), Refused> {
+    let (thrusts, levels) = ([40.0, 60.0, 92.3, 120.0], [60.5, 65.3, 70.1, 76.2]);
+    for thrust in [50.0, 120.0] {
+        println!("at {} kN: {} dB", thrust, level_at(&thrusts, &levels, thrust)?);
+    }
+    for (thrust, rows) in [(130.0, 4), (50.0, 3)] {
+        if let Err(Refused(number)) = level_at(&thrusts, &levels[..rows], thrust) {
+            println!("at {} kN, of 4 thrusts and {} levels: refusal {}", thrust, rows, number);
+        }
+    }
+    Ok(())
+}
+
 fn main() -> Result<(), Refused> {
     let samples = [6000, 8000, 8000, 8000, 6000];
     // Ten samples a second, daytime from 06:00 to 22:00.
@@ -106,5 +128,5 @@ fn main() -> Result<(), Refused> {
     if let Err(Refused(number)) = day.offer(432000, 0, &samples) {
         println!("a second fly-over at noon: refusal {}", number);
     }
-    Ok(())
+    show_levels()
 }

@@ -5,7 +5,8 @@
  * room for the longest window of its own, 62 kB.
  *
  * Levels are hundredths of a decibel, wind tenths of m/s. Times are ticks after local midnight, negative before it, and a tick is one sample: a tenth, a
- * twentieth or a fortieth of a second, by the rate with which a day is opened. A fly-over belongs to the day of its peak, whole.
+ * twentieth or a fortieth of a second, by the rate with which a day is opened. A fly-over belongs to the day of its peak, whole. In
+ * moatburdock_level_at_thrust alone a level is a double in dB, beside thrusts in kN.
  *
  * Every function but moatburdock_end_for_next_day and the two of the reader answers 0, or the number of the refusal. A refused call leaves all that it was
  * lent as it was. Of the arguments only this is required: pointers to as many elements as are stated, all of them initialised, and none that is written
@@ -13,8 +14,8 @@
  * or 3, and every closing by 11 or 12.
  *
  * What each function computes is an equation that is proved for every argument: crates/c_interface/specs/Calls.antt, over the definitions of
- * crates/ledger, offering, closing, mean, land and pairing; of the reader crates/c_reader/specs/Calls.antt, over those of crates/steps. Of a pairing it is
- * proved that it is one of the largest. */
+ * crates/ledger, offering, closing, mean, land and pairing; of the reader crates/c_reader/specs/Calls.antt, over those of crates/steps; of the level at a
+ * thrust crates/c_planning/specs/Calls.antt, over those of crates/thrust. Of a pairing it is proved that it is one of the largest. */
 #ifndef MOATBURDOCK_H
 #define MOATBURDOCK_H
 
@@ -65,7 +66,10 @@ enum moatburdock_refusal {
                                            than 600 seconds of samples */
     MOATBURDOCK_FILE_TOO_LONG,          /* bytes behind the last event of a day file */
     MOATBURDOCK_SETTINGS_INVALID,       /* a rate that is not 10, 20 or 40, a first daytime tick above the last, or a last one that is not inside the day */
-    MOATBURDOCK_LIST_UNFIT              /* a list of times that falls, is longer than 2000, or has marks of another length */
+    MOATBURDOCK_LIST_UNFIT,             /* a list of times that falls, is longer than 2000, or has marks of another length */
+    MOATBURDOCK_ROWS_UNFIT,             /* fewer than 2 or more than 32 rows, unequal counts of thrusts and levels, thrusts that do not rise strictly within
+                                           0 to 1000, or a level outside 0 to 140 */
+    MOATBURDOCK_THRUST_OUTSIDE          /* a thrust that is not between the first and the last of the rows */
 };
 
 /* What a verdict names. */
@@ -126,6 +130,17 @@ uint8_t moatburdock_land_class(uint8_t letter, uint8_t digit, uint8_t *land_clas
  * it is unpaired. As many marks are lent as each list has entries. Refusal 19, which leaves the marks and the count as they were. */
 uint8_t moatburdock_pair_movements(const int32_t *movements, size_t movement_count, const int32_t *peaks, size_t peak_count, uint32_t tolerance,
                                    uint16_t *movement_marks, size_t movement_mark_count, uint16_t *peak_marks, size_t peak_mark_count, uint16_t *pair_count);
+
+/* The level in dB at a thrust in kN, of a table of rows that were measured, given as their thrusts and their levels (formula B.3). The lower row is the last
+ * whose thrust is at most the one asked for, and the level is
+ *
+ *     lower.level + (next.level - lower.level) * (thrust - lower.thrust) / (next.thrust - lower.thrust)
+ *
+ * with one rounding an operation in this order, so that its bits are the same on every machine. At a row's own thrust it equals the row's level as a number,
+ * -0 and 0 alike, and at the last row it is that level itself, bit for bit. It is never a NaN. Rounding may put it a little outside the levels of the two
+ * rows, and so below 0 or above 140. Refusals 20, then 21; a NaN is outside every range, and -0 counts as 0. Doubles must be rounded to the nearest, and
+ * subnormal ones kept, as they are in every C program that does not ask for something else (-ffast-math does). */
+uint8_t moatburdock_level_at_thrust(const double *thrusts, size_t thrust_count, const double *levels, size_t level_count, double thrust, double *level);
 
 /* The reader of day files, from any transport and in whatever pieces the file comes. */
 

@@ -1,15 +1,20 @@
-"""The scripts of calls that crates/script runs, as text: their lines, what the program prints for them, and their answers by the real arithmetic of
-noise.py.
+"""The scripts of calls that crates/script runs, as text: their lines, what the program prints for them, and their answers by noise.py, pairings.py and
+thrusts.py.
 
     LABEL: CALL WORDS = ANSWER      answers that are right are separated by '|', and one that is plausible and wrong stands behind ', not'
     TEXT                            a line without ':' is a heading
 
-In a call 8000*3 stands for 8000 8000 8000, and -6000 for that number in 32 bits, two's complement."""
+In a call 8000*3 stands for 8000 8000 8000, and -6000 for that number in 32 bits, two's complement. The words of interpolate are f64 numbers, each by its
+bits in 16 hexadecimal digits."""
+import os
 import re
 from collections import namedtuple
 
 import noise
 import pairings
+import thrusts
+
+CRATES = os.path.join(os.path.dirname(os.path.dirname(os.path.abspath(__file__))), 'crates')
 
 # The label of a call whose stated answer is wrong, so that the program is seen to notice it, begins so.
 WRONG_ON_PURPOSE = 'wrong on purpose'
@@ -30,6 +35,13 @@ def signed(n):
     return n if n < 2 ** 31 else n - 2 ** 32
 
 
+def number_of(word, name):
+    """the number that a word stands for in a call of some name, None for '-'"""
+    if name == 'interpolate':
+        return thrusts.number(word)
+    return None if word == '-' else int(word) % 2 ** 32
+
+
 def parsed(line):
     """the call of a line, or None for a heading"""
     label, colon, rest = line.partition(':')
@@ -38,12 +50,12 @@ def parsed(line):
     call, _, stated = rest.partition('=')
     name, *words = expanded(call).split()
     slash = words.index('/') if '/' in words else 0
-    numbers = [None if w == '-' else int(w) % 2 ** 32 for w in words if w != '/']
+    numbers = [number_of(word, name) for word in words if word != '/']
     return Call(label, name, numbers, slash, stated, [a.strip() for a in stated.split(',')[0].split('|')])
 
 
 class Replay:
-    """the calls of a script by noise.py, one after the other"""
+    """the calls of a script by the tools, one after the other"""
 
     def __init__(self):
         self.day = noise.Day([], [])
@@ -97,13 +109,17 @@ class Replay:
         times = list(map(signed, times))
         return pairings.answers(times[:call.slash - 3], times[call.slash - 3:], tolerance, movement_marks, peak_marks)
 
+    def interpolate(self, call):
+        thrust, *row_thrusts = call.numbers[:call.slash]
+        return [thrusts.answer(row_thrusts, call.numbers[call.slash:], thrust)]
+
     def answers(self, call):
         """the answers that are right for the next call, the exact one first"""
         return getattr(self, call.name)(call)
 
 
 def replayed(text):
-    """each call of a script, with the answers that are right by noise.py"""
+    """each call of a script, with the answers that are right by the tools"""
     replay = Replay()
     for line in text.splitlines():
         call = parsed(line)
@@ -112,10 +128,10 @@ def replayed(text):
 
 
 def differences(text):
-    """a line for each call whose exact answer by noise.py is not among the stated ones"""
+    """a line for each call whose exact answer by the tools is not among the stated ones"""
     for call, right in replayed(text):
         if (right[0] in call.answers) == call.label.startswith(WRONG_ON_PURPOSE):
-            yield '%s: stated%s, by noise.py %s' % (call.label, call.stated, right[0])
+            yield '%s: stated%s, by the tools %s' % (call.label, call.stated, right[0])
 
 
 def printed(text):
@@ -132,3 +148,27 @@ def printed(text):
         calls += 1
         different += wrong
     return '\n'.join(out + ['%d calls, %d different' % (calls, different)]) + '\n'
+
+
+def stored(crate):
+    """the script of a crate's program, as it stands"""
+    with open(os.path.join(CRATES, crate, 'stdin')) as file:
+        return file.read()
+
+
+def append(crate, lines, different=()):
+    """appends calls to the script of a crate's program, which shows differences alone, and writes what it then prints"""
+    before, made = stored(crate), '\n'.join(lines) + '\n'
+    if made in before:
+        raise SystemExit('these lines stand there already')
+    counts = '%d calls, %d different' % ((before + made).count('\n'), len(different))
+    with open(os.path.join(CRATES, crate, 'stdin'), 'a') as stdin, open(os.path.join(CRATES, crate, 'stdout'), 'w') as stdout:
+        stdin.write(made)
+        stdout.write('\n'.join([*different, counts]) + '\n')
+
+
+def compare(crate):
+    """shows each stored answer of a crate's script that differs from that of the tools, and gives how many do"""
+    found = list(differences(stored(crate)))
+    print('\n'.join(found + ['%d answers differ' % len(found)]))
+    return len(found)

@@ -10,6 +10,7 @@ use borrow.Author.Tests.{ltb-false, not-false}
 use lib.Dec.{ltb, lit<, lit≤}
 use lib.ListN.{length, replicate}
 use Rattle.quantity.specs.Answers.{Reading, level, reading, highestReading}
+use Rattle.quantity.specs.Lent.{leaves}
 use Rattle.quantity.specs.Rules.{Outcome, refused, given, firstOf, outcome}
 use Rattle.quantity.specs.declared.HighestLevel.{HighestLevel}
 use Rattle.quantity.specs.declared.HighestLevel.the-variants as highests
@@ -37,7 +38,7 @@ use Rattle.accuracy.proofs.Claim.{claim}
 use Rattle.accuracy.proofs.Means.{mean-claim}
 use Rattle.day_words.specs.Words.{dayWords, dayFrom}
 use Rattle.c_interface.specs.Numbers.{levelNumber, classNumbers, classLevelsFrom, recordNumber, recordLevel, recordLevels, Told, ToldHighest}
-use Rattle.c_interface.specs.Calls.{OfferLent, CloseLent, leaves, closedLeaves, closeLeaves}
+use Rattle.c_interface.specs.Calls.{OfferLent, CloseLent, closedLeaves, closeLeaves}
 use Rattle.c_interface.proofs.Written.{told-level, record-law, told-highest}
 use Rattle.c_accuracy.specs.Calls.{CCall, offer, close, callOf, lentTo, wordsOf}
 use Rattle.c_accuracy.specs.Demand.{offerSeen, closeSeen, classesSeen, meanSeen, CDemanded, CClaim, Wrote, AllWrote, CMeanClaim, CDemand3}

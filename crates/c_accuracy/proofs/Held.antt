@@ -8,6 +8,7 @@ use native.Mathlib.Omega.{arith}
 use lib.Dec.{ltb, lit<}
 use lib.ListN.{replicate}
 use Rattle.quantity.specs.Rules.{refused, given, firstOf, outcome, follow}
+use Rattle.quantity.specs.Lent.{leaves}
 use Rattle.quantity.specs.Limits.{highestSample}
 use Rattle.quantity.specs.declared.HighestLevel.{HighestLevel}
 use Rattle.quantity.specs.declared.HighestLevel.the-variants as highests
@@ -31,7 +32,7 @@ use Rattle.accuracy.proofs.Windows.{admits}
 use Rattle.day_words.specs.Words.{dayWords, dayFrom, DayFits}
 use Rattle.day_words.proofs.Inverse.{inverse}
 use Rattle.day_words.proofs.Reached.{opened-fits, offered-fits}
-use Rattle.c_interface.specs.Calls.{openLeaves, leaves}
+use Rattle.c_interface.specs.Calls.{openLeaves}
 use Rattle.c_interface.specs.Numbers.{levelNumber}
 use Rattle.c_accuracy.specs.Calls.{CCall, offer, close, callOf, lentTo, wordsAfter, wordsAfterCalls, wordsOf}
 use Rattle.c_accuracy.specs.Demand.{HeldLaw, EndLaw}

@@ -6,6 +6,7 @@ use mathlib.Core.Option.{Option}
 use lib.ListN.{getD}
 use Rattle.quantity.specs.Answers.{Reading}
 use Rattle.quantity.specs.Instants.{ticksOf}
+use Rattle.quantity.specs.Lent.{Left}
 use Rattle.quantity.specs.Lists.{Each}
 use Rattle.quantity.specs.Rules.{Outcome, outcome}
 use Rattle.ledger.specs.Day.{Opening, openedDay, endForNextDay}
@@ -17,7 +18,7 @@ use Rattle.accuracy.specs.Demand.{OfferDemanded, CloseDemanded}
 use Rattle.accuracy.specs.Means.{ClosedDay, Measured, MeanDemanded}
 use Rattle.day_words.specs.Words.{dayFrom}
 use Rattle.c_interface.specs.Numbers.{levelFrom, highestFrom, classLevelsFrom, recordLevel, recordMethod}
-use Rattle.c_interface.specs.Calls.{Left, OfferLent, CloseLent, openLeaves, offerLeaves, endGiven, closeLeaves, weekLeaves, yearLeaves}
+use Rattle.c_interface.specs.Calls.{OfferLent, CloseLent, openLeaves, offerLeaves, endGiven, closeLeaves, weekLeaves, yearLeaves}
 use Rattle.c_accuracy.specs.Calls.{CCall, offer, close, callOf, lentTo, wordsOf}
 
 -- the outcome that a caller reads: the number of the refusal, or what the numbers hold that were lent

@@ -5,7 +5,8 @@ use mathlib.Core.List.{List, [], _∷_}
 use Prim.Native.Nat.{ℕ}
 use lib.IntN.{ℤ}
 use lib.ListN.{length, getD, set}
-use Rattle.quantity.specs.Rules.{Outcome, outcome, follow, Rule, firstOf}
+use Rattle.quantity.specs.Rules.{Outcome, outcome, Rule, firstOf}
+use Rattle.quantity.specs.Lent.{Left, leaves}
 use Rattle.quantity.specs.Instants.{instantOf, afterMidnight}
 use Rattle.ledger.specs.Day.{Opening, opened, endForNextDay}
 use Rattle.admission.specs.Checks.{Offering}
@@ -19,16 +20,6 @@ use Rattle.land.specs.Classes.{classOf}
 use Rattle.land.specs.Verdict.{landClassOf, verdictOf}
 use Rattle.day_words.specs.Words.{dayWords, dayFrom}
 use Rattle.c_interface.specs.Numbers.{levelNumber, levelFrom, highestNumber, highestFrom, classNumbers, recordNumber, recordLevel, recordLevels, findingNumber, marginNumber}
-
--- the answer, 0 or the number of a refusal, and what was lent
-pub record Left (L : Type 0) : Type 0 where
-  pub answer : ℕ
-  pub lent : L
-
--- a call that is refused leaves what it was lent as it was; one that gives a value leaves what is written for it
-abbrev pub leaves : {A L : Type 0} → L → Outcome A → (A → L) → Left L
-leaves lent result written =
-    follow result (λ n. record { answer = n; lent = lent }) (λ value. record { answer = 0; lent = written value })
 
 -- opening: the words of the fresh day
 abbrev pub openLeaves : List ℕ → Opening → Left (List ℕ)

@@ -4,6 +4,7 @@ ghost use mathlib.Core.Path.{_≡_};
 ghost use Prim.Native.Nat.{_<_, _≤_};
 ghost use Rattle.quantity.specs.Answers.{reading, methodNumber, highestReading};
 ghost use Rattle.quantity.specs.Instants.{ticksOf};
+ghost use Rattle.quantity.specs.Lent.{leaves};
 ghost use Rattle.ledger.specs.Day.{openingOf, levelsByClass};
 ghost use Rattle.mean.specs.Mean.{meanOutcome, meanOf};
 ghost use Rattle.land.specs.Answers.{marginReading, findingReading};
@@ -21,7 +22,6 @@ ghost use Rattle.c_interface.specs.Numbers.{
   marginNumber,
 };
 ghost use Rattle.c_interface.specs.Calls.{
-  leaves,
   openLeaves,
   offeringAs,
   offerLeaves,

@@ -4,10 +4,10 @@ use mathlib.Core.List.{List, [], _∷_, _++_}
 use Prim.Native.Nat.{ℕ}
 use lib.ListN.{length, drop, replicate}
 use Rattle.quantity.specs.Rules.{Outcome, refused, given}
+use Rattle.quantity.specs.Lent.{Left}
 use Rattle.offering.specs.Offer.{Accepted}
 use Rattle.closing.specs.Close.{Closing}
 use Rattle.c_interface.specs.Numbers.{levelNumber, highestNumber}
-use Rattle.c_interface.specs.Calls.{Left}
 use Rattle.steps.specs.Machine.{Coming, more, started, answered, ends, nothing, lineFor, Next, stepOf}
 use Rattle.c_reader.specs.Words.{readerWords, readerFrom}
 

@@ -8,6 +8,7 @@ use borrow.Author.Needs.{needs}
 use borrow.Author.Tests.{not-false, leb-true}
 use lib.Dec.{leb, ltb, eqb}
 use Rattle.quantity.specs.Answers.{Reading, highestReading}
+use Rattle.quantity.specs.Numbers.{distance}
 use Rattle.quantity.specs.Rules.{firstOf, refused, given}
 use Rattle.quantity.proofs.Outcomes.{given-value, refused-alike, given-alike}
 use Rattle.quantity.proofs.Refusing.{skip, stop, pass}
@@ -17,7 +18,7 @@ use Rattle.clock.proofs.Rates.{rate-positive, ticks-positive}
 use Rattle.ledger.specs.Book.{mostClasses}
 use Rattle.ledger.specs.Day.{energyIn}
 use Rattle.ledger.specs.declared.Day.{Day}
-use Rattle.method.specs.Method.{distance, Counts, allOf, sharesHold, methodOneHolds, methodTwoHolds, hasMethod, methodBy, methodRule, methodOf, totalsOf, countsOf}
+use Rattle.method.specs.Method.{Counts, allOf, sharesHold, methodOneHolds, methodTwoHolds, hasMethod, methodBy, methodRule, methodOf, totalsOf, countsOf}
 use Rattle.closing.specs.Formula.{formulaBy, levelBy}
 use Rattle.closing.specs.Close.{largestDrift, closeRules, closingOf, closed}
 

@@ -5,11 +5,12 @@ use Prim.Native.Nat.{ℕ}
 use lib.Dec.{ltb}
 use lib.ListN.{replicate}
 use Rattle.quantity.specs.Answers.{Reading, reading, methodNumber, highestReading, refusalNumber}
+use Rattle.quantity.specs.Numbers.{distance}
 use Rattle.quantity.specs.Rules.{Rule, firstOf, Outcome, refused, given, outcome}
 use Rattle.ledger.specs.Book.{mostClasses}
 use Rattle.ledger.specs.Day.{energyIn, levelsByClass}
 use Rattle.ledger.specs.declared.Day.{Day}
-use Rattle.method.specs.Method.{distance, Counts, methodBy, methodRule, countsOf}
+use Rattle.method.specs.Method.{Counts, methodBy, methodRule, countsOf}
 use Rattle.closing.specs.Formula.{formulaBy, levelBy}
 use Rattle.closing.specs.declared.Closing as declared
 use Rattle.closing.specs.declared.Closed as closeds

@@ -5,6 +5,7 @@ use Prim.Native.Nat.{ℕ, zero, suc, _+_, _-_, _*_}
 use lib.Dec.{leb, eqb}
 use lib.ListN.{getD}
 use Rattle.quantity.specs.Answers.{methodNumber, refusalNumber}
+use Rattle.quantity.specs.Numbers.{distance}
 use Rattle.quantity.specs.Rules.{Rule, firstOf, Outcome, refused, given, outcome}
 use Rattle.ledger.specs.Book.{mostClasses, sumOf}
 use Rattle.ledger.specs.declared.Period.{Period}
@@ -13,10 +14,6 @@ use Rattle.method.specs.declared.Count.{Count}
 use Rattle.method.specs.declared.Totals.{Totals}
 use Rattle.method.specs.declared.MethodAnswer.{MethodAnswer}
 use Rattle.method.specs.declared.MethodAnswer.the-variants.{By, Refused}
-
--- |a - b|
-abbrev pub distance : ℕ → ℕ → ℕ
-distance a b = (a - b) + (b - a)
 
 -- the flights of the book and the accepted events in two periods together
 abbrev pub bothOf : Count → Count → Count

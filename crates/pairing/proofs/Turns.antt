@@ -8,9 +8,10 @@ use borrow.Author.Tests.{ltb-true, ltb-false}
 use lib.Dec.{ltb}
 use lib.ListN.{length, getD, set, replicate}
 use lib.Seq.{getD-set-other}
+use Rattle.quantity.specs.Numbers.{distance}
 use Rattle.quantity.proofs.Lists.{zero-at}
 use Rattle.pairing.specs.Answers.{unfit}
-use Rattle.pairing.specs.Pairing.{distance, Near, Largest}
+use Rattle.pairing.specs.Pairing.{Near, Largest}
 use Rattle.pairing.proofs.Rising.{Fit, fit, fit-set}
 use Rattle.pairing.proofs.Counting.{Most, most-none, most-pair, most-movement, most-peak, most-movements, most-peaks}
 use Rattle.pairing.proofs.Marking.{Marked, marked-none, marked-more, largest}

@@ -2,19 +2,16 @@
 use mathlib.Core.Path.{_≡_}
 use mathlib.Core.Logic.{_↔_}
 use mathlib.Core.List.{List, [], _∷_, map, List·Nodup}
-use Prim.Native.Nat.{ℕ, zero, suc, _+_, _-_, _≤_, _<_}
+use Prim.Native.Nat.{ℕ, zero, suc, _+_, _≤_, _<_}
 use lib.ListN.{length, getD}
 use lib.IntN.{ℤ}
 use Rattle.quantity.specs.Instants.{ticksOf}
 use Rattle.quantity.specs.Lists.{Each}
+use Rattle.quantity.specs.Numbers.{distance}
 
 -- W-205: times before midnight are negative; the definitions of W-203 speak of the instants of a list
 abbrev pub instants : List ℤ → List ℕ
 instants = map ticksOf
-
--- |a - b|: one of the two differences is 0
-abbrev pub distance : ℕ → ℕ → ℕ
-distance a b = (a - b) + (b - a)
 
 -- a movement and a peak, by their places in the lists counted from 0
 pub record Pair : Type 0 where

@@ -5,7 +5,8 @@ ghost use Prim.Native.Nat.{_+_, _<_};
 ghost use lib.Dec.{ltb};
 ghost use lib.ListN.{length, replicate};
 ghost use Rattle.quantity.specs.Instants.{ticksOf};
-ghost use Rattle.pairing.specs.Pairing.{instants, distance, Largest};
+ghost use Rattle.quantity.specs.Numbers.{distance};
+ghost use Rattle.pairing.specs.Pairing.{instants, Largest};
 ghost use Rattle.pairing.specs.Answers.{mostEntries, falls, unfit, pairingReading, Answered};
 use quantity::Refusal;
 

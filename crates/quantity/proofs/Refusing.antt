@@ -86,3 +86,5 @@ refusal-positive refusals.FileFault = lit< tt
 refusal-positive refusals.FileTooLong = lit< tt
 refusal-positive refusals.SettingsInvalid = lit< tt
 refusal-positive refusals.ListUnfit = lit< tt
+refusal-positive refusals.RowsUnfit = lit< tt
+refusal-positive refusals.ThrustOutside = lit< tt

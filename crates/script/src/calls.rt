@@ -1,5 +1,6 @@
 // The calls of a script, made through the functions that C calls: each takes its arguments from the numbers of a line.
 use crate::pairs;
+use crate::thrusts;
 use script_text::answers;
 use script_text::answers::Text;
 use script_text::words;
@@ -290,6 +291,7 @@ pub fn make(day: &mut [u32; 320], call: &[u8]) -> Text {
         b'v' => verdict(&numbers),
         b'l' => land_class(&numbers),
         b'p' => pairs::pair(&numbers, words),
+        b'i' => thrusts::interpolate(call),
         _ => answers::nothing(),
     }
 }

@@ -100,3 +100,33 @@ pub fn with_margin(text: Text, margin: i32) -> Text {
     }
     with_signed(text, margin)
 }
+
+// The first of sixteen hexadecimal digits counts so much.
+const FIRST_DIGIT: u64 = 0x1000_0000_0000_0000;
+
+// The digit of a number below 16.
+fn hexadecimal_digit(n: u64) -> u8 {
+    words::byte_at(b"0123456789abcdef", n as usize)
+}
+
+// A number in sixteen hexadecimal digits.
+fn with_hexadecimal(text: Text, n: u64) -> Text {
+    let mut now = with_byte(text, b' ');
+    let mut left = n;
+    let mut i = 0usize;
+    while i < 16 {
+        let next = with_byte(now, hexadecimal_digit(left / FIRST_DIGIT));
+        now = next;
+        left = left % FIRST_DIGIT * 16;
+        i += 1;
+    }
+    now
+}
+
+// The bits of an f64, or 'NaN', whose bits are left free.
+pub fn with_bits(text: Text, x: f64) -> Text {
+    if x == x {
+        return with_hexadecimal(text, f64::to_bits(x));
+    }
+    with_bytes(text, b" NaN")
+}

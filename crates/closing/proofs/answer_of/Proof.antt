@@ -3,8 +3,9 @@ use mathlib.Core.Path.{_≡_, sym, ap, _∙_}
 use mathlib.Core.Bool.{false}
 use lib.Dec.{ltb}
 use Rattle.quantity.specs.Answers.{methodNumber}
+use Rattle.quantity.specs.Numbers.{distance}
 use Rattle.quantity.specs.Rules.{given}
-use Rattle.method.specs.Method.{distance, countsOf, methodOf, methodOutcome}
+use Rattle.method.specs.Method.{countsOf, methodOf, methodOutcome}
 use Rattle.closing.specs.Close.{largestDrift}
 use Rattle.closing.proofs.Answers.{divides, drifted, no-method, by-method}
 use borrow.Author.Needs.{needs}

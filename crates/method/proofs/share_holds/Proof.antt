@@ -2,7 +2,7 @@
 use mathlib.Core.Path.{sym, _∙_}
 use Prim.Native.Nat.{_*_}
 use native.Mathlib.Omega.{arith}
-use Rattle.method.specs.Method.{distance}
+use Rattle.quantity.specs.Numbers.{distance}
 use Rattle.method.proofs.Shares.{product-fits, within-twentieth}
 use borrow.Author.Needs.{needs}
 use Rattle.method.proofs.share_holds.Statement.{statement}

@@ -1,0 +1,30 @@
+-- Document 02, W-206, from C: rows come as two runs, thrusts and levels. What the function answers, and what is in what it was lent when it returns.
+use mathlib.Core.Path.{_≡_}
+use mathlib.Core.Bool.{cond}
+use mathlib.Core.List.{List, [], _∷_}
+use lib.Dec.{eqb}
+use lib.ListN.{length}
+use lib.Ieee.{Float}
+use Rattle.quantity.specs.Rules.{Outcome, refused}
+use Rattle.quantity.specs.Lent.{Left, leaves}
+use Rattle.thrust.specs.Rows.{levelAtThrust}
+use Rattle.thrust.specs.Laws.{ExactAtRows}
+use Rattle.thrust.specs.declared.Row.{Row}
+
+-- the rows of two runs
+abbrev pub rowsOf : List Float → List Float → List Row
+rowsOf [] levels = []
+rowsOf (thrust ∷ thrusts) [] = []
+rowsOf (thrust ∷ thrusts) (level ∷ levels) = record { thrust = thrust; level = level } ∷ rowsOf thrusts levels
+
+-- the level at F by the rows of two runs; runs of unequal length are no rows, and refused by 20
+abbrev pub levelByRuns : List Float → List Float → Float → Outcome Float
+levelByRuns thrusts levels F = cond (eqb (length levels) (length thrusts)) (levelAtThrust (rowsOf thrusts levels) (length thrusts) F) (refused 20)
+
+-- what is promised at each row
+abbrev pub ExactByRuns : List Float → List Float → Float → Outcome Float → Type 0
+ExactByRuns thrusts levels F answer = length levels ≡ length thrusts → ExactAtRows (rowsOf thrusts levels) (length thrusts) F answer
+
+-- the level is written where it is given
+abbrev pub levelLeaves : Float → List Float → List Float → Float → Left Float
+levelLeaves level thrusts levels F = leaves level (levelByRuns thrusts levels F) (λ found. found)

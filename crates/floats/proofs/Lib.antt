@@ -1,0 +1,5 @@
+-- The laws of f64 that several crates cite.
+pub mod Nonnegative
+pub mod Zeros
+pub mod Exact
+pub mod Bounded

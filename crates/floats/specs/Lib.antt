@@ -1,0 +1,2 @@
+-- What the contracts over f64 cite.
+pub mod Arithmetic

@@ -1,0 +1,300 @@
+-- B.3 between two rows, in units: each of its five operations, what is known of its result, and how near the level is to the exact value.
+use mathlib.Core.Path.{_≡_, refl, sym, ap, ap₂, _∙_, subst}
+use mathlib.Core.Bool.{Bool, true, false, true≢false, false≢true}
+use Prim.Native.Nat.{ℕ, _+_, _-_, _*_, _/_, _^_, _≤_, _<_}
+use native.Mathlib.Nat.{le-trans, le-of-eq, not-le-of-lt, sub-eq-zero-of-le, one-mul, mul-add, add-mul, mul-pos, mul-le-mul, mul-le-mul-right, mul-div-cancel}
+use native.Mathlib.Omega.{arith}
+use lib.Dec.{T, lit≤}
+use lib.Ieee.{Float, nan, inf, fin, binary64, prec, down, unlike, add, sub, mul, div}
+use lib.Ieee.Exact.{HasValue}
+use lib.Ieee.Fits.{down-pos}
+use lib.Ieee.Scale.{finite}
+use Rattle.quantity.specs.Numbers.{distance}
+use Rattle.quantity.proofs.Tests.{test}
+use Rattle.thrust_accuracy.specs.Distance.{unitsInOne as W, weighted, ExactLaw, partsInOne, Near, leastApart}
+use Rattle.thrust_accuracy.proofs.Rounding.{rounded, Close, rounded-close, Whole, rounded-whole}
+use Rattle.thrust_accuracy.proofs.Units.{one-positive, one-large, Sized}
+use Rattle.thrust_accuracy.proofs.Operations.{round-value, Minus, add-minus, add-plus, sub-minus, mul-is, div-is}
+use Rattle.thrust_accuracy.proofs.Chain.{product, Second, second, second-most, Third, third, plus-near, minus-near, below-near, product-most, level-most, grown, positive, above-times, below-times, over-one, quotient-most, rounded-most, apart, top-up, top-down, top-still}
+
+-- ---- what is known of a result
+
+pub finite-value : (z : Float) (s : Bool) (g : ℕ) → HasValue z s g W → T (finite z)
+finite-value nan s g v = absurd v
+finite-value (inf t) s g v = absurd v
+finite-value (fin t m e) s g v = tt
+
+-- the units of a value, where it is near
+near-of : (z : Float) (s : Bool) (g top bottom : ℕ) → HasValue z s g W → (s ≡ false → partsInOne * distance (g * bottom) top ≤ bottom * W)
+    → (s ≡ true → partsInOne * (g * bottom + top) ≤ bottom * W) → Near z top bottom
+near-of nan s g top bottom v p q = absurd v
+near-of (inf t) s g top bottom v p q = absurd v
+near-of (fin false m e) s g top bottom v p q =
+    subst (λ (u : ℕ). partsInOne * distance (u * bottom) top ≤ bottom * W) (sym (ap (λ (z : ℕ). z / down e) (v .1) ∙ mul-div-cancel g (down-pos e))) (p (sym (v .0)))
+near-of (fin true m e) s g top bottom v p q =
+    subst (λ (u : ℕ). partsInOne * (u * bottom + top) ≤ bottom * W) (sym (ap (λ (z : ℕ). z / down e) (v .1) ∙ mul-div-cancel g (down-pos e))) (q (sym (v .0)))
+
+-- X − Y, rounded
+pub record Difference (z : Float) (X Y : ℕ) : Type 0 where
+  pub sign : Bool
+  pub size : ℕ
+  pub value : HasValue z sign size W
+  pub whole : Whole (distance X Y) size
+  pub below : sign ≡ true → X ≤ Y
+  pub above : sign ≡ false → Y ≤ X
+
+difference : (z : Float) (X Y B : ℕ) → Minus z X Y W → X ≤ B * W → Y ≤ B * W → B ≤ 2 ^ prec binary64 → Difference z X Y
+difference z X Y B m h k small = record {
+  sign = m .sign;
+  size = rounded (distance X Y * W) W;
+  value = subst (λ (x : Float). HasValue x (m .sign) (rounded (distance X Y * W) W) W) (sym (m .same)) (round-value (m .sign) (distance X Y) W B one-positive (bound X Y (B * W) h k) small);
+  whole = rounded-whole (distance X Y) W one-positive;
+  below = m .below;
+  above = m .above;
+}
+  where
+    bound : (X Y T : ℕ) → X ≤ T → Y ≤ T → (X - Y) + (Y - X) ≤ T
+    bound X Y T h k = omega arith
+
+-- a product of sizes a and b
+pub record Product (z : Float) (s : Bool) (x : ℕ) : Type 0 where
+  pub size : ℕ
+  pub value : HasValue z s size W
+  pub close : Close x W size
+
+multiplied : (x y : Float) (s t : Bool) (a b : ℕ) → HasValue x s a W → HasValue y t b W → a ≤ 141 * W → b ≤ 1001 * W → Product (mul binary64 x y) (unlike s t) (a * b)
+multiplied x y s t a b v w h k = record {
+  size = rounded (a * b * W) (W * W);
+  value =
+      subst (λ (z : Float). HasValue z (unlike s t) (rounded (a * b * W) (W * W)) W) (sym (mul-is x y s t a b v w))
+      (round-value (unlike s t) (a * b) (W * W) 141141 (mul-pos one-positive one-positive) (omega (arith, mul-le-mul h k)) (lit≤ tt));
+  close = over-one (a * b) W (rounded (a * b * W) (W * W)) one-positive (rounded-close (a * b * W) (W * W) (mul-pos one-positive one-positive));
+}
+
+-- a quotient of sizes p and d
+pub record Quotient (z : Float) (s : Bool) (p d : ℕ) : Type 0 where
+  pub size : ℕ
+  pub value : HasValue z s size W
+  pub close : Close (p * W) d size
+
+divided : (x y : Float) (s t : Bool) (p d : ℕ) → HasValue x s p W → HasValue y t d W → 0 < d → p ≤ 284 * d → Quotient (div binary64 x y) (unlike s t) p d
+divided x y s t p d v w e h = record {
+  size = rounded (p * W) d;
+  value =
+      subst (λ (z : Float). HasValue z (unlike s t) (rounded (p * W) d) W) (sym (div-is x y s t p d v w e)) (round-value (unlike s t) p d 284 e h (lit≤ tt));
+  close = rounded-close (p * W) d e;
+}
+
+-- the lower level plus a value of the sign s and the size q
+pub record Level (z : Float) (s : Bool) (L q : ℕ) : Type 0 where
+  pub sign : Bool
+  pub size : ℕ
+  pub value : HasValue z sign size W
+  pub plus : s ≡ false → (sign ≡ false) × Whole (L + q) size
+  pub minus : s ≡ true → Whole (distance L q) size × (sign ≡ true → L ≤ q) × (sign ≡ false → q ≤ L)
+
+raised : (x y : Float) (s : Bool) (L q : ℕ) → Sized x L → HasValue y s q W → L ≤ 140 * W → q ≤ 285 * W → Level (add binary64 x y) s L q
+raised x y false L q l v h k = record {
+  sign = false;
+  size = rounded ((L + q) * W) W;
+  value = subst (λ (z : Float). HasValue z false (rounded ((L + q) * W) W) W) (sym (add-plus x y L q l v)) (round-value false (L + q) W 425 one-positive (omega arith) (lit≤ tt));
+  plus = λ e. (refl, rounded-whole (L + q) W one-positive);
+  minus = λ e. absurd (false≢true e);
+}
+raised x y true L q l v h k =
+    let d = difference (add binary64 x y) L q 425 (add-minus x y L q l v) (omega arith) (omega arith) (lit≤ tt) in
+    record {
+      sign = d .sign;
+      size = d .size;
+      value = d .value;
+      plus = λ e. absurd (true≢false e);
+      minus = λ e. (d .whole, d .below, d .above);
+    }
+
+-- ---- the exact value, by the sign of what is added
+
+narrow : (X Y : ℕ) → Y ≤ X → distance X Y ≡ X - Y
+narrow X Y h = omega arith
+
+left-over : (X Y : ℕ) → Y ≤ X → distance X Y + Y ≡ X
+left-over X Y h = omega arith
+
+right-over : (X Y : ℕ) → X ≤ Y → distance X Y + X ≡ Y
+right-over X Y h = omega arith
+
+pub exact-law : ExactLaw
+exact-law l1 l2 F f1 f2 from to =
+    regroup (l1 * (f2 - F)) (l2 * (F - f1)) (l1 * (F - f1))
+    ∙ ap (λ (z : ℕ). z + l2 * (F - f1)) (sym (mul-add l1 (f2 - F) (F - f1)) ∙ ap (λ (z : ℕ). l1 * z) (split F f1 f2 from to))
+  where
+    regroup : (x y z : ℕ) → x + y + z ≡ x + z + y
+    regroup x y z = omega arith
+
+    split : (F f1 f2 : ℕ) → f1 ≤ F → F ≤ f2 → (f2 - F) + (F - f1) ≡ f2 - f1
+    split F f1 f2 h k = omega arith
+
+module _ (L1 L2 N N1 N2 : ℕ) (from : N1 ≤ N) (to : N ≤ N2) where
+  abbrev Up : Type 0
+  Up = weighted L1 L2 N N1 N2 ≡ L1 * (N2 - N1) + distance L2 L1 * (N - N1)
+
+  abbrev Down : Type 0
+  Down = weighted L1 L2 N N1 N2 + distance L2 L1 * (N - N1) ≡ L1 * (N2 - N1)
+
+  exact-up : L1 ≤ L2 → Up
+  exact-up h = top-up (weighted L1 L2 N N1 N2) L1 L2 (distance L2 L1) (N2 - N1) (N - N1) (exact-law L1 L2 N N1 N2 from to) (omega arith)
+
+  exact-down : L2 ≤ L1 → Down
+  exact-down h = top-down (weighted L1 L2 N N1 N2) L1 L2 (distance L2 L1) (N2 - N1) (N - N1) (exact-law L1 L2 N N1 N2 from to) (omega arith)
+
+  still : N ≤ N1 → Up × Down
+  still h = top-still (weighted L1 L2 N N1 N2) L1 L2 (distance L2 L1) (N2 - N1) (N - N1) (exact-law L1 L2 N N1 N2 from to) (sub-eq-zero-of-le h)
+
+-- ---- the five operations
+
+-- the lower and the upper level, the thrust F, and the lower and the upper thrust, each with its units
+pub record Setting (l1 l2 F f1 f2 : Float) (L1 L2 N N1 N2 : ℕ) : Type 0 where
+  pub lower-level : Sized l1 L1
+  pub upper-level : Sized l2 L2
+  pub thrust : Sized F N
+  pub lower-thrust : Sized f1 N1
+  pub upper-thrust : Sized f2 N2
+  pub lower-most : L1 ≤ 140 * W
+  pub upper-most : L2 ≤ 140 * W
+  pub from : N1 ≤ N
+  pub to : N ≤ N2
+  pub rise : N1 < N2
+  pub highest : N2 ≤ 1000 * W
+
+module _ {l1 l2 F f1 f2 : Float} {L1 L2 N N1 N2 : ℕ} (g : Setting l1 l2 F f1 f2 L1 L2 N N1 N2) where
+  levels : Difference (sub binary64 l2 l1) L2 L1
+  levels = difference (sub binary64 l2 l1) L2 L1 140 (sub-minus l2 l1 L2 L1 (g .upper-level) (g .lower-level)) (g .upper-most) (g .lower-most) (lit≤ tt)
+
+  thrusts : Difference (sub binary64 F f1) N N1
+  thrusts = difference (sub binary64 F f1) N N1 1000 (sub-minus F f1 N N1 (g .thrust) (g .lower-thrust)) (omega arith) (omega arith) (lit≤ tt)
+
+  width : Difference (sub binary64 f2 f1) N2 N1
+  width = difference (sub binary64 f2 f1) N2 N1 1000 (sub-minus f2 f1 N2 N1 (g .upper-thrust) (g .lower-thrust)) (omega arith) (omega arith) (lit≤ tt)
+
+  -- the exact differences, and their sizes
+  abbrev A : ℕ
+  A = distance L2 L1
+
+  abbrev B : ℕ
+  B = N - N1
+
+  abbrev D : ℕ
+  D = N2 - N1
+
+  A-most : A ≤ 140 * W
+  A-most = omega arith
+
+  B-most : B ≤ D
+  B-most = omega arith
+
+  D-positive : 0 < D
+  D-positive = omega arith
+
+  thrusts-whole : Whole B (thrusts .size)
+  thrusts-whole = subst (λ (z : ℕ). Whole z (thrusts .size)) (narrow N N1 (g .from)) (thrusts .whole)
+
+  width-whole : Whole D (width .size)
+  width-whole = subst (λ (z : ℕ). Whole z (width .size)) (narrow N2 N1 (omega arith)) (width .whole)
+
+  levels-most : levels .size ≤ 141 * W
+  levels-most = le-trans (grown A (levels .size) W (omega arith) (levels .whole)) (omega arith)
+
+  thrusts-most : thrusts .size ≤ 1001 * W
+  thrusts-most = le-trans (grown B (thrusts .size) W (omega arith) thrusts-whole) (omega arith)
+
+  width-positive : 0 < width .size
+  width-positive = positive D (width .size) D-positive width-whole
+
+  -- the product
+  multiple : Product (mul binary64 (sub binary64 l2 l1) (sub binary64 F f1)) (unlike (levels .sign) (thrusts .sign)) (levels .size * thrusts .size)
+  multiple = multiplied (sub binary64 l2 l1) (sub binary64 F f1) (levels .sign) (thrusts .sign) (levels .size) (thrusts .size) (levels .value) (thrusts .value) levels-most thrusts-most
+
+  X-most : A * B ≤ 140 * (D * W)
+  X-most = product-most A B D W A-most B-most
+
+  to-product : Second (A * B) (D * W) W (multiple .size * W)
+  to-product = second (A * B) (D * W) W (levels .size * thrusts .size) (multiple .size) X-most (product A B (levels .size) (thrusts .size) (levels .whole) thrusts-whole) (multiple .close)
+
+  multiple-most : multiple .size * W ≤ 142 * (D * W)
+  multiple-most = second-most (A * B) (D * W) W (multiple .size * W) X-most (le-trans (le-of-eq (sym (one-mul W))) (mul-le-mul-right W D-positive)) to-product
+
+  -- the quotient
+  abbrev sign-added : Bool
+  sign-added = unlike (unlike (levels .sign) (thrusts .sign)) (width .sign)
+
+  added : Quotient (div binary64 (mul binary64 (sub binary64 l2 l1) (sub binary64 F f1)) (sub binary64 f2 f1)) sign-added (multiple .size) (width .size)
+  added =
+      divided (mul binary64 (sub binary64 l2 l1) (sub binary64 F f1)) (sub binary64 f2 f1) (unlike (levels .sign) (thrusts .sign)) (width .sign) (multiple .size) (width .size)
+      (multiple .value) (width .value) width-positive (quotient-most (multiple .size) W D (width .size) one-positive multiple-most (width-whole .below))
+
+  added-most : added .size ≤ 285 * W
+  added-most =
+      rounded-most (added .size) (multiple .size) W (width .size) one-positive width-positive
+      (quotient-most (multiple .size) W D (width .size) one-positive multiple-most (width-whole .below)) (added .close)
+
+  -- the level
+  abbrev result : Float
+  result = add binary64 l1 (div binary64 (mul binary64 (sub binary64 l2 l1) (sub binary64 F f1)) (sub binary64 f2 f1))
+
+  level : Level result sign-added L1 (added .size)
+  level = raised l1 (div binary64 (mul binary64 (sub binary64 l2 l1) (sub binary64 F f1)) (sub binary64 f2 f1)) sign-added L1 (added .size) (g .lower-level) (added .value) (g .lower-most) added-most
+
+  pub level-finite : T (finite result)
+  level-finite = finite-value result (level .sign) (level .size) (level .value)
+
+  -- the exact value, by the sign of the quotient
+  abbrev top : ℕ
+  top = weighted L1 L2 N N1 N2
+
+  width-sign : width .sign ≡ false
+  width-sign = go (width .sign) refl where
+    go : (b : Bool) → width .sign ≡ b → b ≡ false
+    go true e = absurd (not-le-of-lt (g .rise) (width .below e))
+    go false e = refl
+
+  exact-plus : sign-added ≡ false → top ≡ L1 * D + A * B
+  exact-plus e = go (levels .sign) refl (thrusts .sign) refl (sym (ap (λ (b : Bool). unlike (unlike (levels .sign) (thrusts .sign)) b) width-sign) ∙ e) where
+    go : (a : Bool) → levels .sign ≡ a → (b : Bool) → thrusts .sign ≡ b → unlike (unlike (levels .sign) (thrusts .sign)) false ≡ false → top ≡ L1 * D + A * B
+    go a p true q h = still L1 L2 N N1 N2 (g .from) (g .to) (thrusts .below q) .0
+    go false p false q h = exact-up L1 L2 N N1 N2 (g .from) (g .to) (levels .above p)
+    go true p false q h = absurd (true≢false (sym (ap₂ (λ (x y : Bool). unlike (unlike x y) false) p q) ∙ h))
+
+  exact-minus : sign-added ≡ true → top + A * B ≡ L1 * D
+  exact-minus e = go (levels .sign) refl (thrusts .sign) refl (sym (ap (λ (b : Bool). unlike (unlike (levels .sign) (thrusts .sign)) b) width-sign) ∙ e) where
+    go : (a : Bool) → levels .sign ≡ a → (b : Bool) → thrusts .sign ≡ b → unlike (unlike (levels .sign) (thrusts .sign)) false ≡ true → top + A * B ≡ L1 * D
+    go a p true q h = still L1 L2 N N1 N2 (g .from) (g .to) (thrusts .below q) .1
+    go true p false q h = exact-down L1 L2 N N1 N2 (g .from) (g .to) (levels .below p)
+    go false p false q h = absurd (false≢true (sym (ap₂ (λ (x y : Bool). unlike (unlike x y) false) p q) ∙ h))
+
+  -- how near it is
+  module _ (wide : leastApart ≤ D) where
+    to-quotient : Third (A * B) (D * W) (added .size * D)
+    to-quotient =
+        third (A * B) (D * W) W (multiple .size * W) D (width .size) (added .size) X-most multiple-most (apart W D (width .size) wide one-large (width-whole .above)) to-product (added .close) width-whole
+
+    near-plus : sign-added ≡ false → Near result top D
+    near-plus e =
+        let p = level .plus e in
+        near-of result (level .sign) (level .size) top D (level .value)
+        (λ h. plus-near (A * B) (D * W) (added .size * D) (L1 * D) (level .size * D) ((L1 + added .size) * D) top to-quotient (level-most L1 D W (g .lower-most))
+        (above-times (L1 + added .size) (level .size) D (p .1 .above)) (below-times (L1 + added .size) (level .size) D (p .1 .below)) (exact-plus e) (add-mul L1 (added .size) D))
+        (λ h. absurd (true≢false (sym h ∙ p .0)))
+
+    near-minus : sign-added ≡ true → Near result top D
+    near-minus e =
+        let p = level .minus e in
+        let Z = distance L1 (added .size) in
+        near-of result (level .sign) (level .size) top D (level .value)
+        (λ h. minus-near (A * B) (D * W) (added .size * D) (L1 * D) (level .size * D) (Z * D) top to-quotient (level-most L1 D W (g .lower-most))
+        (above-times Z (level .size) D (p .0 .above)) (below-times Z (level .size) D (p .0 .below)) (exact-minus e)
+        (sym (add-mul Z (added .size) D) ∙ ap (λ (z : ℕ). z * D) (left-over L1 (added .size) (p .2 h))))
+        (λ h. below-near (A * B) (D * W) (added .size * D) (L1 * D) (level .size * D) (Z * D) top to-quotient (level-most L1 D W (g .lower-most))
+        (above-times Z (level .size) D (p .0 .above)) (below-times Z (level .size) D (p .0 .below)) (exact-minus e)
+        (sym (add-mul Z L1 D) ∙ ap (λ (z : ℕ). z * D) (right-over L1 (added .size) (p .1 h))))
+
+    pub level-near : Near result top D
+    level-near = test sign-added near-minus near-plus
