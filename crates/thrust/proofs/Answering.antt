@@ -1,15 +1,23 @@
--- What is answered, by the two rules.
-use Prim.Native.Nat.{ℕ, _-_, _<_}
+-- What is answered, by the two rules and by the lower row.
+use Prim.Native.Nat.{ℕ, _+_, _-_, _<_}
 use native.Mathlib.Omega.{arith}
-use mathlib.Core.Path.{_≡_}
+use native.Mathlib.Numerals.{add-one}
+use mathlib.Core.Path.{_≡_, refl}
 use mathlib.Core.Bool.{true, false}
 use mathlib.Core.List.{List}
 use lib.Ieee.{Float}
-use borrow.Author.Tests.{le-leb, lt-leb}
+use borrow.Author.Tests.{le-leb, lt-leb, eq-eqb, ne-eqb}
 use Rattle.quantity.specs.Rules.{refused, given}
 use Rattle.quantity.proofs.Refusing.{stops, passes}
-use Rattle.thrust.specs.Rows.{fit, spans, thrustRules, lowerPlace, levelFrom, levelAtThrust}
+use Rattle.thrust.specs.Rows.{rowAt, fit, spans, thrustRules, lowerPlace, levelBetween, levelFrom, levelAtThrust}
 use Rattle.thrust.specs.declared.Row.{Row}
+
+-- at the last row its level, at any other the formula with the next one
+pub from-last : (rows : List Row) (last : ℕ) (F : Float) (k : ℕ) → k ≡ last → rowAt rows last .level ≡ levelFrom rows last F k
+from-last rows last F k e = rw (e, eq-eqb last last refl)
+
+pub from-lower : (rows : List Row) (last : ℕ) (F : Float) (k : ℕ) → (k ≡ last → ⊥) → levelBetween (rowAt rows k) (rowAt rows (k + 1)) F ≡ levelFrom rows last F k
+from-lower rows last F k e = rw (add-one k, ne-eqb k last e)
 
 -- more than 32 rows are not fit
 pub too-many : (rows : List Row) (count : ℕ) → 32 < count → fit rows count ≡ false

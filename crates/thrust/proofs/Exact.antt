@@ -7,8 +7,8 @@ use Prim.Native.Nat.{ℕ, zero, suc, _-_, _*_, _≤_, _<_}
 use native.Mathlib.Nat.{eq-or-lt-of-le, le-of-suc-le-suc, le-of-eq, lt-suc-self}
 use native.Mathlib.Numerals.{sub-one}
 use native.Mathlib.Omega.{arith}
-use lib.Dec.{T, eqb, lit≤}
-use lib.Ieee.{Float, binary64, fits, eq, le}
+use lib.Dec.{eqb, lit≤}
+use lib.Ieee.{Float, eq, le}
 use lib.Ieee.Positive.{num, den, den-pos, through}
 use borrow.Author.Tests.{le-leb, lt-leb, eqb-true, eqb-false, eq-eqb}
 use Rattle.quantity.specs.Rules.{given}

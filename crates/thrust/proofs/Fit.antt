@@ -1,5 +1,5 @@
 -- What is known of rows that refusal 20 lets through: their numbers are not below zero and not too large, and their thrusts rise.
-use mathlib.Core.Path.{_≡_, refl, sym, _∙_}
+use mathlib.Core.Path.{_≡_, refl, sym, ap, _∙_}
 use mathlib.Core.Logic.{inl, inr}
 use mathlib.Core.Bool.{Bool, true, false, _&&_, true≢false}
 use mathlib.Core.List.{List}
@@ -9,14 +9,14 @@ use native.Mathlib.Omega.{arith}
 use lib.Dec.{leb}
 use lib.Ieee.{Float, le, round, ofInt}
 use lib.Ieee.Positive.{num, den, den-pos}
-use borrow.Author.Tests.{leb-true, ltb-true}
+use borrow.Author.Tests.{le-leb, leb-true, ltb-true}
 use Rattle.quantity.proofs.Tests.{both}
 use Rattle.floats.specs.Arithmetic.{floatOf, within}
 use Rattle.floats.proofs.Nonnegative.{Nonnegative, within-nonnegative, lt-is, le-is, through-lt}
 use Rattle.floats.proofs.Bounded.{AtMost, of-nonnegative}
 use Rattle.thrust.specs.Rows.{rowAt, every, inRange, rises, fit}
 use Rattle.thrust.specs.declared.Row.{Row}
-use Rattle.thrust.proofs.Walking.{every-at}
+use Rattle.thrust.proofs.Walking.{step, every-at, every-both}
 
 -- ---- a row in range
 
@@ -46,7 +46,7 @@ module _ (row : Row) (h : inRange row ≡ true) where
   level-within : within (floatOf 0) (floatOf 140) (row .level) ≡ true
   level-within = both (within (floatOf 0) (floatOf 1000) (row .thrust)) (within (floatOf 0) (floatOf 140) (row .level)) h .1
 
-  pub thrust-nonnegative : Nonnegative (row .thrust)
+  thrust-nonnegative : Nonnegative (row .thrust)
   thrust-nonnegative = up-to-nonnegative (floatOf 1000) (row .thrust) nonnegative-1000 thrust-within
 
   pub level-nonnegative : Nonnegative (row .level)
@@ -75,6 +75,22 @@ fit-rows rows count h =
     let counted = both (leb 2 count) (leb count 32) (halves .0) in
     let placed = both (every (λ k. inRange (rowAt rows k)) count) (every (rises rows) (count - 1)) (halves .1) in
     record { some-rows = leb-true 2 count (counted .0); most-rows = leb-true count 32 (counted .1); in-range = placed .0; rising = placed .1 }
+
+-- in one walk: the last row in range, and each other in range with its thrust below the next one
+abbrev pub comesBefore : List Row → ℕ → Bool
+comesBefore rows k = inRange (rowAt rows k) && rises rows k
+
+and-assoc : (a b c : Bool) → (a && b) && c ≡ a && (b && c)
+and-assoc true b c = refl
+and-assoc false b c = refl
+
+pub fit-in-one : (rows : List Row) (count : ℕ) → 2 ≤ count → count ≤ 32 → fit rows count ≡ inRange (rowAt rows (count - 1)) && every (comesBefore rows) (count - 1)
+unfolding fit
+fit-in-one rows count h k =
+    let inside : ℕ → Bool = λ j. inRange (rowAt rows j) in
+    rw (le-leb 2 count h, le-leb count 32 k, step inside count (omega arith))
+    (and-assoc (inside (count - 1)) (every inside (count - 1)) (every (rises rows) (count - 1))
+    ∙ ap (λ (b : Bool). inside (count - 1) && b) (sym (every-both inside (rises rows) (count - 1))))
 
 module _ (rows : List Row) (count : ℕ) (t : Fit rows count) where
   pub last-place : count - 1 < count

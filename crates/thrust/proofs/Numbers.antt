@@ -46,7 +46,7 @@ module _ (rows : List Row) (count : ℕ) (F : Float) (t : Fit rows count) (s : s
         (difference-nonzero (rowAt rows (suc k) .thrust) (rowAt rows k .thrust) (nonnegative-at rows count t (suc k) u) (nonnegative-at rows count t k h) (floats (suc k) u .0) (floats k h .0)
         (strictly rows count t k (suc k) (lt-suc-self k) u)))
 
-    pub level-number : T (not (isNan (levelFrom rows (count - 1) F k)))
+    level-number : T (not (isNan (levelFrom rows (count - 1) F k)))
     level-number = go (eqb k (count - 1)) refl where
       go : (b : Bool) → eqb k (count - 1) ≡ b → T (not (isNan (cond b (rowAt rows k .level) (levelBetween (rowAt rows k) (rowAt rows (suc k)) F))))
       go true e = no-nan 140 _ (level-at rows count t k h)

@@ -35,7 +35,7 @@ module _ (rows others : List Row) (F : Float) where
     go true e = rw (h k l)
     go false e = rw (h k l, h (suc k) (omega (arith, l, eqb-false k last e)))
 
-  pub fit-same : (count : ℕ) → Alike rows others count → fit rows count ≡ fit others count
+  fit-same : (count : ℕ) → Alike rows others count → fit rows count ≡ fit others count
   unfolding fit
   fit-same count h =
       rw (

@@ -1,6 +1,6 @@
 -- One place at a time, from the last one down.
 use Prim.Native.Nat.{ℕ, zero, suc, _-_, _≤_, _<_}
-use mathlib.Core.Path.{_≡_, refl}
+use mathlib.Core.Path.{_≡_, refl, ap, _∙_}
 use mathlib.Core.Bool.{Bool, true, false, cond, _&&_}
 use mathlib.Core.List.{List}
 use mathlib.Core.Logic.{inl, inr}
@@ -16,7 +16,7 @@ use Rattle.thrust.specs.declared.Row.{Row}
 -- ---- a test at each place
 
 module _ (p : ℕ → Bool) where
-  step : (n : ℕ) → 0 < n → every p n ≡ p (n - 1) && every p (n - 1)
+  pub step : (n : ℕ) → 0 < n → every p n ≡ p (n - 1) && every p (n - 1)
   unfolding every
   step zero h = absurd (omega arith)
   step (suc n) h = rw (sub-one (suc n))
@@ -41,6 +41,18 @@ module _ (p : ℕ → Bool) where
         | inl e ↦ rw e (both (p n) (every p n) h .0)
         | inr g ↦ every-at n (both (p n) (every p n) h .1) k g
       ]
+
+both-parts : (a b c d : Bool) → (a && b) && (c && d) ≡ (a && c) && (b && d)
+both-parts true true c d = refl
+both-parts true false true d = refl
+both-parts true false false d = refl
+both-parts false b c d = refl
+
+-- two tests in one walk
+pub every-both : (p q : ℕ → Bool) (n : ℕ) → every (λ k. p k && q k) n ≡ every p n && every q n
+unfolding every
+every-both p q zero = refl
+every-both p q (suc n) = ap (λ (b : Bool). (p n && q n) && b) (every-both p q n) ∙ both-parts (p n) (q n) (every p n) (every q n)
 
 -- whether the thrust before place n is below that of n
 pub rises-to : (rows : List Row) (n : ℕ) → 0 < n → rises rows (n - 1) ≡ lt (rowAt rows (n - 1) .thrust) (rowAt rows n .thrust)

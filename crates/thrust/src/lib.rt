@@ -1,19 +1,9 @@
 // The level at a thrust between two rows of measured ones (formula B.3), in f64.
 ghost use mathlib.Core.Path.{_≡_};
+ghost use mathlib.Core.Bool.{_&&_};
 ghost use Prim.Native.Nat.{_≤_, _<_};
-ghost use Rattle.thrust.specs.Rows.{
-  rowAt,
-  every,
-  inRange,
-  rises,
-  fit,
-  spans,
-  lowerPlace,
-  levelBetween,
-  levelFrom,
-  levelAtThrust,
-  thrustReading,
-};
+ghost use lib.Ieee.{lt};
+ghost use Rattle.thrust.specs.Rows.{inRange, fit, lowerPlace, levelBetween, levelAtThrust, thrustReading};
 ghost use Rattle.thrust.specs.Laws.{ExactAtRows, IsNumber};
 use quantity::Refusal;
 
@@ -42,40 +32,18 @@ fn is_in_range(row: Row) -> bool
     }
 }
 
-// Whether each of the first rows is in range.
-fn are_in_range(rows: [Row; MOST_ROWS], count: usize) -> bool
-    requires { ⌜ count ≤ 32 ⌝ }
-    ensures { λ r. ⌜ r ≡ every (λ k. inRange (rowAt rows k)) count ⌝ }
+// Whether a row is in range, and its thrust below that of the next one.
+fn comes_before(row: Row, next: Row) -> bool
+    ensures { λ r. ⌜ r ≡ inRange row && lt (row .thrust) (next .thrust) ⌝ }
 {
-    let mut left = count;
-    while 0 < left {
-        left -= 1;
-        let row = rows[left];
-        if !is_in_range(row) {
-            return false;
-        }
+    if is_in_range(row) {
+        row.thrust < next.thrust
+    } else {
+        false
     }
-    true
 }
 
-// Whether each thrust up to a last one is below the next.
-fn do_rise(rows: [Row; MOST_ROWS], last: usize) -> bool
-    requires { ⌜ last < 32 ⌝ }
-    ensures { λ r. ⌜ r ≡ every (rises rows) last ⌝ }
-{
-    let mut left = last;
-    while 0 < left {
-        let next = rows[left];
-        left -= 1;
-        let row = rows[left];
-        if !(row.thrust < next.thrust) {
-            return false;
-        }
-    }
-    true
-}
-
-// Whether the first rows are let through by refusal 20.
+// Whether the first rows are let through by refusal 20. Every call that is handed the rows copies them, so one loop tests ranges and order.
 fn are_fit(rows: [Row; MOST_ROWS], count: usize) -> bool
     ensures { λ r. ⌜ r ≡ fit rows count ⌝ }
 {
@@ -85,20 +53,20 @@ fn are_fit(rows: [Row; MOST_ROWS], count: usize) -> bool
     if MOST_ROWS < count {
         return false;
     }
-    if !are_in_range(rows, count) {
+    let mut place = count - 1;
+    let last_row = rows[place];
+    if !is_in_range(last_row) {
         return false;
     }
-    do_rise(rows, count - 1)
-}
-
-// Whether a thrust is from the first to the last one of the rows.
-fn do_span(rows: [Row; MOST_ROWS], last: usize, thrust: f64) -> bool
-    requires { ⌜ last < 32 ⌝ }
-    ensures { λ r. ⌜ r ≡ spans rows last thrust ⌝ }
-{
-    let first_row = rows[0];
-    let last_row = rows[last];
-    floats::is_within(first_row.thrust, last_row.thrust, thrust)
+    while 0 < place {
+        let next = rows[place];
+        place -= 1;
+        let row = rows[place];
+        if !comes_before(row, next) {
+            return false;
+        }
+    }
+    true
 }
 
 // The place of the lower row: the last whose thrust is at most the given one.
@@ -125,19 +93,6 @@ fn level_between(row: Row, next: Row, thrust: f64) -> f64
     row.level + (next.level - row.level) * (thrust - row.thrust) / (next.thrust - row.thrust)
 }
 
-// The level from the lower row on.
-fn level_from(rows: [Row; MOST_ROWS], last: usize, thrust: f64, place: usize) -> f64
-    requires { ⌜ (place ≤ last) × (last < 32) ⌝ }
-    ensures { λ r. ⌜ r ≡ levelFrom rows last thrust place ⌝ }
-{
-    let row = rows[place];
-    if place == last {
-        return row.level;
-    }
-    let next = rows[place + 1];
-    level_between(row, next, thrust)
-}
-
 // The level in dB at a thrust in kN, by the first `count` rows.
 pub fn level_at_thrust(rows: [Row; MOST_ROWS], count: usize, thrust: f64) -> ThrustAnswer
     ensures { λ r. ⌜ thrustReading r ≡ levelAtThrust rows count thrust ⌝ }
@@ -148,9 +103,16 @@ pub fn level_at_thrust(rows: [Row; MOST_ROWS], count: usize, thrust: f64) -> Thr
         return ThrustAnswer::Refused(Refusal::RowsUnfit);
     }
     let last = count - 1;
-    if !do_span(rows, last, thrust) {
+    let first_row = rows[0];
+    let last_row = rows[last];
+    if !floats::is_within(first_row.thrust, last_row.thrust, thrust) {
         return ThrustAnswer::Refused(Refusal::ThrustOutside);
     }
     let place = lower_place(rows, last, thrust);
-    ThrustAnswer::At(level_from(rows, last, thrust, place))
+    if place == last {
+        return ThrustAnswer::At(last_row.level);
+    }
+    let row = rows[place];
+    let next = rows[place + 1];
+    ThrustAnswer::At(level_between(row, next, thrust))
 }

@@ -19,7 +19,7 @@ use Rattle.thrust_accuracy.proofs.Chain.{product, Second, second, secon
 
 -- ---- what is known of a result
 
-pub finite-value : (z : Float) (s : Bool) (g : ℕ) → HasValue z s g W → T (finite z)
+finite-value : (z : Float) (s : Bool) (g : ℕ) → HasValue z s g W → T (finite z)
 finite-value nan s g v = absurd v
 finite-value (inf t) s g v = absurd v
 finite-value (fin t m e) s g v = tt

@@ -45,7 +45,7 @@ module _ (n u : ℕ) (P : 0 < u) where
   bit : (q : ℕ) → q % 2 ≤ 1
   bit q = omega arith
 
-  pub closest-half : Half n u (closest n u)
+  closest-half : Half n u (closest n u)
   closest-half = go (compare (n % u * 2) u) (leb→le (n % u * 2) u) (nleb→lt (n % u * 2) u) (eqb→eq (n % u * 2) u) where
     go : (o : Ordering) → (T (isLe o) → n % u * 2 ≤ u) → (T (not (isLe o)) → u < n % u * 2) → (T (isEq o) → n % u * 2 ≡ u) → Half n u (nearest (n / u) o)
     go Ordering·lt h k e = half-stay (h tt)

@@ -1,18 +1,17 @@
 -- The size of an f64 in units: each f64 is a whole number of them, and values not below zero are in the order of their units.
 use mathlib.Core.Path.{_≡_, refl, sym, ap, _∙_}
-use mathlib.Core.Bool.{Bool, true, false}
+use mathlib.Core.Bool.{Bool, true}
 use Prim.Native.Nat.{ℕ, suc, _-_, _*_, _/_, _^_, _≤_, _<_}
-use native.Mathlib.Nat.{le-trans, le-of-eq, lt-of-not-le, lt-irrefl, lt-of-le-of-lt, not-le-of-lt, zero-mul, zero-div, mul-one, mul-assoc, mul-right-comm, mul-le-mul-right, le-of-mul-le-mul-right, mul-div-cancel}
+use native.Mathlib.Nat.{le-trans, le-of-eq, lt-of-not-le, not-le-of-lt, zero-mul, zero-div, mul-one, mul-assoc, mul-right-comm, mul-le-mul-right, le-of-mul-le-mul-right, mul-div-cancel}
 use lib.IntN.{ℤ, pos, negsuc}
-use lib.Dec.{T, leb, lit≤, lit<}
-use lib.Pow.{pow-add, pow-lt}
+use lib.Dec.{T, lit≤, lit<}
+use lib.Pow.{pow-add}
 use lib.Ieee.{Float, nan, inf, fin, binary64, low, up, down, fits}
 use lib.Ieee.Digits.{back}
 use lib.Ieee.Exact.{HasValue}
 use lib.Ieee.Fits.{down-pos}
 use lib.Ieee.Order.{transfer}
 use lib.Ieee.Positive.{num, den, den-pos}
-use borrow.Author.Tests.{leb-true, leb-false}
 use Rattle.floats.proofs.Nonnegative.{Nonnegative}
 use Rattle.floats.proofs.Exact.{fits-den, pow-back}
 use Rattle.thrust_accuracy.specs.Distance.{unitsInOne as W, unitsOf, leastApart}
