@@ -137,9 +137,10 @@ uint8_t moatburdock_pair_movements(const int32_t *movements, size_t movement_cou
  *     lower.level + (next.level - lower.level) * (thrust - lower.thrust) / (next.thrust - lower.thrust)
  *
  * with one rounding an operation in this order, so that its bits are the same on every machine. At a row's own thrust it equals the row's level as a number,
- * -0 and 0 alike, and at the last row it is that level itself, bit for bit. It is never a NaN. Rounding may put it a little outside the levels of the two
- * rows, and so below 0 or above 140. Refusals 20, then 21; a NaN is outside every range, and -0 counts as 0. Doubles must be rounded to the nearest, and
- * subnormal ones kept, as they are in every C program that does not ask for something else (-ffast-math does). */
+ * -0 and 0 alike, and at the last row it is that level itself, bit for bit. It is always finite, and within 10^-12 dB of the exact value where the thrusts of
+ * the two rows are 2^-1000 kN apart or more (crates/thrust_accuracy). Rounding may put it a last place outside the levels of the two rows, and so below 0 or
+ * above 140. Refusals 20, then 21; a NaN is outside every range, and -0 counts as 0. Doubles must be rounded to the nearest, and subnormal ones kept, as they
+ * are in every C program that does not ask for something else (-ffast-math does). */
 uint8_t moatburdock_level_at_thrust(const double *thrusts, size_t thrust_count, const double *levels, size_t level_count, double thrust, double *level);
 
 /* The reader of day files, from any transport and in whatever pieces the file comes. */
