@@ -20,6 +20,16 @@ def formula(f0, l0, f1, l1, f):
     return l0 + (l1 - l0) * (f - f0) / (f1 - f0)
 
 
+def nearest(x):
+    """a fraction rounded to the nearest f64, a tie to the even one: Python divides whole numbers so, without the processor's floating point"""
+    return Fraction(x.numerator / x.denominator)
+
+
+def rounded_formula(f0, l0, f1, l1, f):
+    """B.3 over fractions, each operation rounded once; without the sign of a zero"""
+    return nearest(l0 + nearest(nearest(nearest(l1 - l0) * nearest(f - f0)) / nearest(f1 - f0)))
+
+
 def division_first(f0, l0, f1, l1, f):
     return l0 + (l1 - l0) * ((f - f0) / (f1 - f0))
 
@@ -67,9 +77,9 @@ def level(thrusts, levels, thrust, order=formula):
     return order(*rows, thrust) if len(rows) == 4 else rows[1]
 
 
-def exact(thrusts, levels, thrust):
-    """the same level without rounding"""
-    return level(list(map(Fraction, thrusts)), list(map(Fraction, levels)), Fraction(thrust))
+def over_fractions(thrusts, levels, thrust, order=formula):
+    """the same level over fractions: by the formula as it stands it is exact"""
+    return level(list(map(Fraction, thrusts)), list(map(Fraction, levels)), Fraction(thrust), order)
 
 
 def answer(thrusts, levels, thrust, order=formula):

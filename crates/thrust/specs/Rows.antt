@@ -37,6 +37,7 @@ fit rows count = (leb 2 count && leb count 32) && (every (λ k. inRange (rowAt r
 abbrev pub spans : List Row → (last : ℕ) → Float → Bool
 spans rows last F = within (rowAt rows 0 .thrust) (rowAt rows last .thrust) F
 
+-- 'Refusal 20', and 'Refusal 21, checked after it'
 abbrev pub thrustRules : List Row → ℕ → Float → List Rule
 thrustRules rows count F =
     record { number = 20; refuses = not (fit rows count) }

@@ -1,4 +1,4 @@
--- B.3 between two rows, in units: each of its five operations, what is known of its result, and how near the level is to the exact value.
+-- B.3 between two rows, in units: each of its six operations, what is known of its result, and how near the level is to the exact value.
 use mathlib.Core.Path.{_≡_, refl, sym, ap, ap₂, _∙_, subst}
 use mathlib.Core.Bool.{Bool, true, false, true≢false, false≢true}
 use Prim.Native.Nat.{ℕ, _+_, _-_, _*_, _/_, _^_, _≤_, _<_}
@@ -149,7 +149,7 @@ module _ (L1 L2 N N1 N2 : ℕ) (from : N1 ≤ N) (to : N ≤ N2) where
   still : N ≤ N1 → Up × Down
   still h = top-still (weighted L1 L2 N N1 N2) L1 L2 (distance L2 L1) (N2 - N1) (N - N1) (exact-law L1 L2 N N1 N2 from to) (sub-eq-zero-of-le h)
 
--- ---- the five operations
+-- ---- the six operations
 
 -- the lower and the upper level, the thrust F, and the lower and the upper thrust, each with its units
 pub record Setting (l1 l2 F f1 f2 : Float) (L1 L2 N N1 N2 : ℕ) : Type 0 where
