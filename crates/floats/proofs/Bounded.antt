@@ -1,5 +1,5 @@
 -- Values of at most a whole number in size: sums and products of such values are finite, so no NaN comes of them.
-use mathlib.Core.Path.{_≡_, refl, sym, ap, subst, _∙_}
+use mathlib.Core.Path.{sym, ap, subst, _∙_}
 use Prim.Native.Nat.{ℕ, zero, suc, _+_, _-_, _*_, _^_, _≤_, _<_}
 use native.Mathlib.Nat.{mul-pos, mul-one, mul-assoc, mul-comm, add-mul, le-trans, le-of-eq, mul-le-mul, mul-le-mul-right, mul-mul-mul-comm}
 use native.Mathlib.Omega.{arith}
@@ -7,6 +7,7 @@ use mathlib.Core.Bool.{Bool, true, false, not, _&&_, Bool·beq, cond, true≢fal
 use lib.Dec.{T, ltb, lit<}
 use lib.Ieee.{Float, nan, inf, fin, binary64, prec, low, emax, up, down, unlike, odd, units, round, neg, sum, add, sub, mul, div, le, isNan}
 use lib.Ieee.Back.{round-whole}
+use lib.Ieee.Bits.{is-true}
 use lib.Ieee.Exact.{HasValue}
 use lib.Ieee.Fits.{down-pos, round-is}
 use lib.Ieee.Order.{round-mono}
@@ -71,10 +72,6 @@ value-nonnegative : (y : Float) (a c : ℕ) → HasValue y false a c → Nonnega
 value-nonnegative nan a c v = absurd v
 value-nonnegative (inf s) a c v = absurd v
 value-nonnegative (fin s m e) a c v = λ h. absurd (true≢false (sym h ∙ v .0))
-
-is-true : (b : Bool) → T b → b ≡ true
-is-true true t = refl
-is-true false t = absurd t
 
 round-nonnegative : (a c : ℕ) (y : Float) → Nonnegative y → T (le (round binary64 false a c) y) → Nonnegative (round binary64 false a c)
 round-nonnegative a c y p h = subst Nonnegative (sym (round-is binary64 false a c)) (units-nonnegative _ _ y p (subst (λ (x : Float). T (le x y)) (round-is binary64 false a c) h))

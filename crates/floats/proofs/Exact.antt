@@ -15,6 +15,7 @@ use lib.Ieee.Fits.{up-pos, down-pos, and-l, and-r}
 use lib.Ieee.Order.{round-mono}
 use lib.Ieee.Positive.{num, den, above, above-of-le}
 use borrow.Author.Tests.{le-ltb, leb-true, leb-false, eq-eqb}
+use Rattle.quantity.proofs.Tests.{both}
 use Rattle.floats.proofs.Nonnegative.{Nonnegative, no-product, zero-factor, eq-is}
 use Rattle.floats.proofs.Zeros.{Zero, IsZero, Nonzero, round-zero}
 
@@ -195,13 +196,9 @@ module _ (s : Bool) (m : ℕ) (e : ℤ) (p : Nonnegative (fin s m e)) (f : T (fi
     same : a ≡ m * up e
     same = mul-one (m * up e)
 
-    first : (x y : Bool) → x && y ≡ true → x ≡ true
-    first true y h = refl
-    first false y h = h
-
     go : (q : Bool) → eq (cond q (round binary64 s (a + b) (down e * 1)) (cond (ltb a b) (round binary64 r (b - a) (down e * 1)) (round binary64 (s && ltb b a) (a - b) (down e * 1)))) (fin s m e) ≡ true
     go true = rounded s (a + b) (down e * 1) (λ h. h) (omega arith) (mul-one (down e))
-    go false = rw (le-ltb a b (omega arith)) (rounded (s && ltb b a) (a - b) (down e * 1) (λ h. first s (ltb b a) h) (omega arith) (mul-one (down e)))
+    go false = rw (le-ltb a b (omega arith)) (rounded (s && ltb b a) (a - b) (down e * 1) (λ h. both s (ltb b a) h .0) (omega arith) (mul-one (down e)))
 
 pub plus-zero : (x z : Float) → Nonnegative x → T (fits binary64 x) → IsZero z → eq (add binary64 x z) x ≡ true
 plus-zero x z p f i = subst (λ (w : Float). eq (add binary64 x w) x ≡ true) (sym (i .same)) (go x p f) where

@@ -4,7 +4,7 @@ use mathlib.Core.Logic.{inl, inr}
 use Prim.Native.Nat.{ℕ, _*_, _≤_, _<_}
 use native.Mathlib.Nat.{le-of-lt, le-of-eq, lt-irrefl, zero-mul, zero-add, mul-pos, mul-right-comm, mul-le-mul-right, mul-lt-mul-of-pos-right, lt-of-le-of-lt, lt-of-lt-of-le, lt-of-mul-lt-mul-right, eq-zero-or-pos}
 use native.Mathlib.Omega.{arith}
-use mathlib.Core.Bool.{Bool, true, false, _&&_, _||_, true≢false}
+use mathlib.Core.Bool.{Bool, true, false, _&&_, _||_, and-true, and-self, true≢false}
 use lib.Dec.{leb, ltb, eqb}
 use lib.Arith.{lt-of-le-ne}
 use lib.Ieee.{Float, nan, inf, fin, up, down, below, level, lt, eq, le}
@@ -35,16 +35,9 @@ below-is false true a b A B = sym (le-ltb a b (omega (arith, B refl)))
 below-is true false a b A B = rw (A refl, zero-add b)
 below-is true true a b A B = rw (A refl, B refl)
 
-and-true : (p : Bool) → p && true ≡ p
-and-true true = refl
-and-true false = refl
-
 level-is : (s t : Bool) (a b : ℕ) → (s ≡ true → a ≡ 0) → (t ≡ true → b ≡ 0) → level s a t b ≡ eqb a b
 level-is false false a b A B = and-true (eqb a b)
-level-is false true a b A B = rw (B refl) (twice (eqb a 0)) where
-  twice : (p : Bool) → p && p ≡ p
-  twice true = refl
-  twice false = refl
+level-is false true a b A B = rw (B refl) (and-self (eqb a 0))
 level-is true false a b A B = rw (A refl) (and-true (eqb 0 b))
 level-is true true a b A B = and-true (eqb a b)
 

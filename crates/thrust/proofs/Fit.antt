@@ -1,7 +1,7 @@
 -- What is known of rows that refusal 20 lets through: their numbers are not below zero and not too large, and their thrusts rise.
 use mathlib.Core.Path.{_≡_, refl, sym, ap, _∙_}
 use mathlib.Core.Logic.{inl, inr}
-use mathlib.Core.Bool.{Bool, true, false, _&&_, true≢false}
+use mathlib.Core.Bool.{Bool, true, false, _&&_, and-assoc, true≢false}
 use mathlib.Core.List.{List}
 use Prim.Native.Nat.{ℕ, zero, suc, _-_, _*_, _≤_, _<_}
 use native.Mathlib.Nat.{eq-or-lt-of-le, le-of-suc-le-suc, le-of-lt, le-of-eq, le-refl, mul-one, le-trans}
@@ -79,10 +79,6 @@ fit-rows rows count h =
 -- in one walk: the last row in range, and each other in range with its thrust below the next one
 abbrev pub comesBefore : List Row → ℕ → Bool
 comesBefore rows k = inRange (rowAt rows k) && rises rows k
-
-and-assoc : (a b c : Bool) → (a && b) && c ≡ a && (b && c)
-and-assoc true b c = refl
-and-assoc false b c = refl
 
 pub fit-in-one : (rows : List Row) (count : ℕ) → 2 ≤ count → count ≤ 32 → fit rows count ≡ inRange (rowAt rows (count - 1)) && every (comesBefore rows) (count - 1)
 unfolding fit
