@@ -1,5 +1,5 @@
 /* Opens a day, offers two fly-overs, closes it, forms a year of such days and its verdict, holds the tower's log against the fly-overs, opens the next day,
- * with a fly-over at midnight, and asks for the level at thrusts. Built and run by examples/run_c. */
+ * with a fly-over at midnight, and asks for the level at thrusts and for the correction at angles. Built and run by examples/run_c. */
 #include "moatburdock.h"
 
 #include <stdio.h>
@@ -22,6 +22,29 @@ static int levels_at_thrusts(void) {
     const uint8_t answer = moatburdock_level_at_thrust(thrusts, 4, levels, 4, 130.0, &level);
     printf("at 130.0 kN: refusal %u, the level is left at %.17g dB\n", answer, level);
     return answer != MOATBURDOCK_THRUST_OUTSIDE;
+}
+
+static void show_correction(double angle, uint8_t position, double correction) {
+    if (position == MOATBURDOCK_IN_FRONT)
+        printf("at %.1f degrees: in front, no correction\n", angle);
+    else
+        printf("at %.1f degrees: %s, %.17g dB\n", angle, position == MOATBURDOCK_BESIDE ? "beside" : "behind", correction);
+}
+
+/* The correction for fences behind the runway end, at angles in degrees from the start of roll: in front, beside, at the last angle that is beside, behind,
+ * and at an angle that there is not. */
+static int corrections_at_angles(void) {
+    const double asked[] = {45.0, 120.0, 148.4, 165.0};
+    uint8_t position = MOATBURDOCK_IN_FRONT;
+    double correction = 0.0;
+    for (int i = 0; i < 4; i++) {
+        if (failed("the correction", moatburdock_correction_at_angle(asked[i], &position, &correction)))
+            return 1;
+        show_correction(asked[i], position, correction);
+    }
+    const uint8_t answer = moatburdock_correction_at_angle(180.5, &position, &correction);
+    printf("at 180.5 degrees: refusal %u, position %u and %.17g dB are left\n", answer, position, correction);
+    return answer != MOATBURDOCK_ANGLE_OUTSIDE;
 }
 
 int main(void) {
@@ -93,5 +116,5 @@ int main(void) {
 
     printf("a day of 30 samples a second: refusal %u\n", moatburdock_open_day(day, 30, 216000, 791999, -18000, daytime, 2, night, 2));
     printf("a second fly-over at noon: refusal %u\n", moatburdock_offer(day, 432000, 0, 30, false, 6000, samples, 5, &exposure, &lmax));
-    return levels_at_thrusts();
+    return levels_at_thrusts() || corrections_at_angles();
 }

@@ -1,5 +1,5 @@
 // Opens a day, offers two fly-overs, closes it, forms a year of such days, holds the tower's log against the fly-overs, opens the next day, with a fly-over
-// at midnight, and asks for the level at thrusts. Built and run by examples/run_rust.
+// at midnight, and asks for the level at thrusts and for the correction at angles. Built and run by examples/run_rust.
 #[link(name = "moatburdock", kind = "static")]
 extern "C" {
     fn moatburdock_open_day(day: *mut u32, rate: u32, first: u32, last: u32, end: i32, daytime: *const u16, classes: usize, night: *const u16,
@@ -12,6 +12,7 @@ extern "C" {
     fn moatburdock_pair_movements(movements: *const i32, movement_count: usize, peaks: *const i32, peak_count: usize, tolerance: u32,
         movement_marks: *mut u16, movement_mark_count: usize, peak_marks: *mut u16, peak_mark_count: usize, pair_count: *mut u16) -> u8;
     fn moatburdock_level_at_thrust(thrusts: *const f64, thrust_count: usize, levels: *const f64, level_count: usize, thrust: f64, level: *mut f64) -> u8;
+    fn moatburdock_correction_at_angle(angle: f64, position: *mut u8, correction: *mut f64) -> u8;
 }
 
 /// A refusal, by its number.
@@ -94,6 +95,41 @@ fn show_levels() -> Result<(), Refused> {
     Ok(())
 }
 
+/// Where an angle lies, seen from the start of roll, with the correction in dB where there is one.
+enum Position {
+    InFront,
+    Beside(f64),
+    Behind(f64),
+}
+
+/// The position of an angle in degrees.
+fn position_at(angle: f64) -> Result<Position, Refused> {
+    let (mut position, mut correction) = (0, 0.0);
+    checked(unsafe { moatburdock_correction_at_angle(angle, &mut position, &mut correction) })?;
+    Ok(match position {
+        0 => Position::InFront,
+        1 => Position::Beside(correction),
+        _ => Position::Behind(correction),
+    })
+}
+
+/// In front, beside, at the last angle that is beside, behind, above 180 and at no number.
+fn show_corrections() -> Result<(), Refused> {
+    for angle in [45.0, 120.0, 148.4, 165.0] {
+        match position_at(angle)? {
+            Position::InFront => println!("at {} degrees: in front, no correction", angle),
+            Position::Beside(correction) => println!("at {} degrees: beside, {} dB", angle, correction),
+            Position::Behind(correction) => println!("at {} degrees: behind, {} dB", angle, correction),
+        }
+    }
+    for angle in [180.5, f64::NAN] {
+        if let Err(Refused(number)) = position_at(angle) {
+            println!("at {} degrees: refusal {}", angle, number);
+        }
+    }
+    Ok(())
+}
+
 fn main() -> Result<(), Refused> {
     let samples = [6000, 8000, 8000, 8000, 6000];
     // Ten samples a second, daytime from 06:00 to 22:00.
@@ -128,5 +164,6 @@ fn main() -> Result<(), Refused> {
     if let Err(Refused(number)) = day.offer(432000, 0, &samples) {
         println!("a second fly-over at noon: refusal {}", number);
     }
-    show_levels()
+    show_levels()?;
+    show_corrections()
 }

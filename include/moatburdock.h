@@ -6,7 +6,7 @@
  *
  * Levels are hundredths of a decibel, wind tenths of m/s. Times are ticks after local midnight, negative before it, and a tick is one sample: a tenth, a
  * twentieth or a fortieth of a second, by the rate with which a day is opened. A fly-over belongs to the day of its peak, whole. In
- * moatburdock_level_at_thrust alone a level is a double in dB, beside thrusts in kN.
+ * moatburdock_level_at_thrust and moatburdock_correction_at_angle alone there are doubles: levels and corrections in dB, thrusts in kN, angles in degrees.
  *
  * Every function but moatburdock_end_for_next_day and the two of the reader answers 0, or the number of the refusal. A refused call leaves all that it was
  * lent as it was. Of the arguments only this is required: pointers to as many elements as are stated, all of them initialised, and none that is written
@@ -15,7 +15,8 @@
  *
  * What each function computes is an equation that is proved for every argument: crates/c_interface/specs/Calls.antt, over the definitions of
  * crates/ledger, offering, closing, mean, land and pairing; of the reader crates/c_reader/specs/Calls.antt, over those of crates/steps; of the level at a
- * thrust crates/c_planning/specs/Calls.antt, over those of crates/thrust. Of a pairing it is proved that it is one of the largest. */
+ * thrust and the correction at an angle crates/c_planning/specs/Calls.antt, over those of crates/thrust and start_of_roll. Of a pairing it is proved that it
+ * is one of the largest. */
 #ifndef MOATBURDOCK_H
 #define MOATBURDOCK_H
 
@@ -69,7 +70,8 @@ enum moatburdock_refusal {
     MOATBURDOCK_LIST_UNFIT,             /* a list of times that falls, is longer than 2000, or has marks of another length */
     MOATBURDOCK_ROWS_UNFIT,             /* fewer than 2 or more than 32 rows, unequal counts of thrusts and levels, thrusts that do not rise strictly within
                                            0 to 1000, or a level outside 0 to 140 */
-    MOATBURDOCK_THRUST_OUTSIDE          /* a thrust that is not between the first and the last of the rows */
+    MOATBURDOCK_THRUST_OUTSIDE,         /* a thrust that is not between the first and the last of the rows */
+    MOATBURDOCK_ANGLE_OUTSIDE           /* an angle that is not from 0 to 180 */
 };
 
 /* What a verdict names. */
@@ -79,6 +81,13 @@ enum moatburdock_finding {
     MOATBURDOCK_OVER_MAXIMUM,
     MOATBURDOCK_BOTH,
     MOATBURDOCK_NO_LIMIT
+};
+
+/* Where an angle lies, seen from the start of roll. */
+enum moatburdock_position {
+    MOATBURDOCK_IN_FRONT = 0,           /* below 90 degrees: there is no correction */
+    MOATBURDOCK_BESIDE,                 /* from 90 to 148.4 degrees */
+    MOATBURDOCK_BEHIND                  /* above 148.4, to 180 degrees */
 };
 
 /* Opens a day: the settings of its terminal, which are its samples a second (10, 20 or 40) and the first and the last daytime tick, both in; the end of the
@@ -142,6 +151,19 @@ uint8_t moatburdock_pair_movements(const int32_t *movements, size_t movement_cou
  * above 140. Refusals 20, then 21; a NaN is outside every range, and -0 counts as 0. Doubles must be rounded to the nearest, and subnormal ones kept, as they
  * are in every C program that does not ask for something else (-ffast-math does). */
 uint8_t moatburdock_level_at_thrust(const double *thrusts, size_t thrust_count, const double *levels, size_t level_count, double thrust, double *level);
+
+/* The correction in dB behind the start of roll, at an angle in degrees: gives the position, of enum moatburdock_position, and beside or behind the correction
+ * (formulas B.14 and B.15), which is
+ *
+ *     51.44 - 1.553 * angle + 0.015147 * (angle * angle) - 0.000047173 * (angle * angle * angle)         beside, from 90 to 148.4
+ *     339.18 - 2.5802 * angle - 0.0045545 * (angle * angle) + 0.000044193 * (angle * angle * angle)      behind, above 148.4 to 180
+ *
+ * with one rounding an operation in this order, from the left, and each constant the double nearest to its decimal, 148.4 too, so that its bits are the same
+ * on every machine. In front there is no number: the position is given, and the correction is left as it was. A correction that is given is always finite, and
+ * within 10^-12 dB of the exact value (crates/start_of_roll_accuracy). The formulas do not meet at the bounds: at 90 the correction is -0.028 dB and not 0, and
+ * at 148.4 B.14 gives 0.382 dB, 0.024 dB less than B.15 would. Refusal 22, which leaves the position and the correction as they were; a NaN is no angle from 0
+ * to 180, and -0 counts as 0, which is in front. Doubles must be rounded to the nearest here too. */
+uint8_t moatburdock_correction_at_angle(double angle, uint8_t *position, double *correction);
 
 /* The reader of day files, from any transport and in whatever pieces the file comes. */
 

@@ -1,15 +1,17 @@
-"""The scripts of calls that crates/script runs, as text: their lines, what the program prints for them, and their answers by noise.py, pairings.py and
-thrusts.py.
+"""The scripts of calls that crates/script runs, as text: their lines, what the program prints for them, and their answers by noise.py, pairings.py,
+thrusts.py and angles.py.
 
     LABEL: CALL WORDS = ANSWER      answers that are right are separated by '|', and one that is plausible and wrong stands behind ', not'
     TEXT                            a line without ':' is a heading
 
-In a call 8000*3 stands for 8000 8000 8000, and -6000 for that number in 32 bits, two's complement. The words of interpolate are f64 numbers, each by its
-bits in 16 hexadecimal digits."""
+In a call 8000*3 stands for 8000 8000 8000, and -6000 for that number in 32 bits, two's complement. The words of interpolate and degrees are f64
+numbers, each by its bits in 16 hexadecimal digits."""
 import os
 import re
 from collections import namedtuple
 
+import angles
+import f64
 import noise
 import pairings
 import thrusts
@@ -37,8 +39,8 @@ def signed(n):
 
 def number_of(word, name):
     """the number that a word stands for in a call of some name, None for '-'"""
-    if name == 'interpolate':
-        return thrusts.number(word)
+    if name in ('interpolate', 'degrees'):
+        return f64.number(word)
     return None if word == '-' else int(word) % 2 ** 32
 
 
@@ -112,6 +114,9 @@ class Replay:
     def interpolate(self, call):
         thrust, *row_thrusts = call.numbers[:call.slash]
         return [thrusts.answer(row_thrusts, call.numbers[call.slash:], thrust)]
+
+    def degrees(self, call):
+        return [angles.answer(*call.numbers)]
 
     def answers(self, call):
         """the answers that are right for the next call, the exact one first"""

@@ -1,28 +1,14 @@
 """W-206 of document 02 in Python's floats, which are IEEE 754 by another implementation, written apart from the library: the level at a thrust between two
 rows (formula B.3), with refusals 20 and 21. The same formula over fractions rounds nothing and is the exact value. Beside it stand the orders of
 computing it that wrong programs have."""
-import struct
 from fractions import Fraction
 
-
-def number(text):
-    """the f64 whose bits are 16 hexadecimal digits"""
-    return struct.unpack('>d', bytes.fromhex(text))[0]
-
-
-def bits(x):
-    """the bits of an f64, as 16 hexadecimal digits"""
-    return struct.pack('>d', x).hex()
+from f64 import bits, nearest
 
 
 def formula(f0, l0, f1, l1, f):
     """B.3: from the lower row, of thrust f0 and level l0, towards the next one, at the thrust f"""
     return l0 + (l1 - l0) * (f - f0) / (f1 - f0)
-
-
-def nearest(x):
-    """a fraction rounded to the nearest f64, a tie to the even one: Python divides whole numbers so, without the processor's floating point"""
-    return Fraction(x.numerator / x.denominator)
 
 
 def rounded_formula(f0, l0, f1, l1, f):

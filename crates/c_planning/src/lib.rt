@@ -4,8 +4,11 @@ ghost use Prim.Native.Nat.{_≤_};
 ghost use lib.ListN.{length};
 ghost use Rattle.thrust.specs.Rows.{thrustReading};
 ghost use Rattle.thrust.specs.Laws.{Alike, IsNumber};
-ghost use Rattle.c_planning.specs.Calls.{rowsOf, levelByRuns, ExactByRuns, levelLeaves};
+ghost use Rattle.start_of_roll.specs.Correction.{correctionAtAngle, IsFinite};
+ghost use Rattle.c_planning.specs.Calls.{rowsOf, levelByRuns, ExactByRuns, levelLeaves, correctionLeaves};
 use quantity::Refusal;
+use start_of_roll::Correction;
+use start_of_roll::CorrectionAnswer;
 use thrust::Row;
 use thrust::ThrustAnswer;
 
@@ -66,6 +69,50 @@ pub extern "C" fn moatburdock_level_at_thrust(
         ThrustAnswer::Refused(refusal) => quantity::refusal_number(refusal),
         ThrustAnswer::At(found) => {
             *level = found;
+            0
+        }
+    }
+}
+
+// Where a point lies from the start of roll, as a number.
+const IN_FRONT: u8 = 0;
+
+const BESIDE: u8 = 1;
+
+const BEHIND: u8 = 2;
+
+// The correction in dB for a point at an angle in degrees from the start of roll: where the point lies and, beside and behind, the correction. In front there is
+// none, and what stands in its place stays.
+#[no_mangle]
+pub extern "C" fn moatburdock_correction_at_angle(
+    angle: f64,
+    position: &mut u8,
+    correction: &mut f64,
+) -> u8
+    ensures { λ r.
+        ⌜
+        record { answer = r; lent = record { position = now (position .exit); correction = now (correction .exit) } }
+        ≡ correctionLeaves (record { position = now (position .entry); correction = now (correction .entry) }) angle
+        ⌝ }
+    ensures finite { λ _. ⌜ IsFinite (correctionAtAngle angle) ⌝ }
+{
+    let answer = start_of_roll::correction_at_angle(angle);
+    match answer {
+        CorrectionAnswer::Refused(refusal) => quantity::refusal_number(refusal),
+        CorrectionAnswer::Given(found) => {
+            match found {
+                Correction::InFront => {
+                    *position = IN_FRONT;
+                }
+                Correction::Beside(number) => {
+                    *position = BESIDE;
+                    *correction = number;
+                }
+                Correction::Behind(number) => {
+                    *position = BEHIND;
+                    *correction = number;
+                }
+            }
             0
         }
     }

@@ -14,7 +14,7 @@ use lib.Ieee.Order.{round-mono}
 use lib.Ieee.Positive.{num, den, den-pos, through, value→cross}
 use lib.Ieee.Scale.{finite}
 use borrow.Author.Tests.{leb-true, ne-eqb}
-use Rattle.floats.proofs.Nonnegative.{Nonnegative, le-is}
+use Rattle.floats.proofs.Nonnegative.{Nonnegative, value-nonnegative, le-is}
 use Rattle.floats.proofs.Zeros.{Nonzero}
 
 -- finite, and at most B in size
@@ -67,11 +67,6 @@ units-nonnegative q k (fin t n d) p = go (ltb (q * 2 ^ k) (2 ^ (low binary64 + s
   go : (b : Bool) → T (le (cond b (odd (suc (prec binary64)) false q k (low binary64)) (inf false)) (fin t n d)) → Nonnegative (cond b (odd (suc (prec binary64)) false q k (low binary64)) (inf false))
   go true h = odd-nonnegative (suc (prec binary64)) q k (low binary64)
   go false h = absurd h
-
-value-nonnegative : (y : Float) (a c : ℕ) → HasValue y false a c → Nonnegative y
-value-nonnegative nan a c v = absurd v
-value-nonnegative (inf s) a c v = absurd v
-value-nonnegative (fin s m e) a c v = λ h. absurd (true≢false (sym h ∙ v .0))
 
 round-nonnegative : (a c : ℕ) (y : Float) → Nonnegative y → T (le (round binary64 false a c) y) → Nonnegative (round binary64 false a c)
 round-nonnegative a c y p h = subst Nonnegative (sym (round-is binary64 false a c)) (units-nonnegative _ _ y p (subst (λ (x : Float). T (le x y)) (round-is binary64 false a c) h))

@@ -1,5 +1,6 @@
 -- The laws of f64 that several crates cite.
 pub mod Nonnegative
+pub mod Ranges
 pub mod Zeros
 pub mod Exact
 pub mod Bounded

@@ -8,6 +8,7 @@ use mathlib.Core.Bool.{Bool, true, false, _&&_, _||_, and-true, and-self, true�
 use lib.Dec.{leb, ltb, eqb}
 use lib.Arith.{lt-of-le-ne}
 use lib.Ieee.{Float, nan, inf, fin, up, down, below, level, lt, eq, le}
+use lib.Ieee.Exact.{HasValue}
 use lib.Ieee.Fits.{up-pos, down-pos}
 use lib.Ieee.Positive.{num, den}
 use borrow.Author.Tests.{ltb-true, ltb-false, eqb-true, eqb-false, le-ltb, le-leb, lt-leb, eq-eqb}
@@ -19,6 +20,11 @@ abbrev pub Nonnegative : Float → Type 0
 Nonnegative nan = ⊥
 Nonnegative (inf s) = ⊥
 Nonnegative (fin s m e) = s ≡ true → m ≡ 0
+
+pub value-nonnegative : (y : Float) (a c : ℕ) → HasValue y false a c → Nonnegative y
+value-nonnegative nan a c v = absurd v
+value-nonnegative (inf s) a c v = absurd v
+value-nonnegative (fin s m e) a c v = λ h. absurd (true≢false (sym h ∙ v .0))
 
 -- ---- the comparisons
 

@@ -88,3 +88,4 @@ refusal-positive refusals.SettingsInvalid = lit< tt
 refusal-positive refusals.ListUnfit = lit< tt
 refusal-positive refusals.RowsUnfit = lit< tt
 refusal-positive refusals.ThrustOutside = lit< tt
+refusal-positive refusals.AngleOutside = lit< tt

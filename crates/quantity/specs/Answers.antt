@@ -32,7 +32,7 @@ abbrev pub methodNumber : Method → ℕ
 methodNumber One = 1
 methodNumber Two = 2
 
--- 'Refused calls': what is returned; document 02 adds 18 (W-202), 19 (W-203), 20 and 21 (W-206)
+-- 'Refused calls': what is returned; document 02 adds 18 (W-202), 19 (W-203), 20 and 21 (W-206), 22 (W-207)
 abbrev pub refusalNumber : Refusal → ℕ
 refusalNumber refusals.SampleCount = 1
 refusalNumber refusals.OutsideDay = 2
@@ -55,6 +55,7 @@ refusalNumber refusals.SettingsInvalid = 18
 refusalNumber refusals.ListUnfit = 19
 refusalNumber refusals.RowsUnfit = 20
 refusalNumber refusals.ThrustOutside = 21
+refusalNumber refusals.AngleOutside = 22
 
 -- 'Refused calls': the number by which a call is refused, 0 where it is not
 abbrev pub checkNumber : Check → ℕ

@@ -1,4 +1,5 @@
 // The calls of a script, made through the functions that C calls: each takes its arguments from the numbers of a line.
+use crate::angles;
 use crate::pairs;
 use crate::thrusts;
 use script_text::answers;
@@ -292,6 +293,7 @@ pub fn make(day: &mut [u32; 320], call: &[u8]) -> Text {
         b'l' => land_class(&numbers),
         b'p' => pairs::pair(&numbers, words),
         b'i' => thrusts::interpolate(call),
+        b'd' => angles::degrees(call),
         _ => answers::nothing(),
     }
 }

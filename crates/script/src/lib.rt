@@ -5,12 +5,13 @@
 //     TEXT                                a line without ':' is a heading
 //
 // In a call 8000*3 stands for 8000 8000 8000, and -6000 for that number in 32 bits, two's complement. The calls are told by their first letter: book,
-// terminal, after, next, offer, close, highest, week, year, rewrite, verdict, land, pair, interpolate. The words of interpolate are f64 numbers, each by its
-// bits in 16 hexadecimal digits.
+// terminal, after, next, offer, close, highest, week, year, rewrite, verdict, land, pair, interpolate, degrees. The words of interpolate and degrees are f64
+// numbers, each by its bits in 16 hexadecimal digits.
 ghost use mathlib.Core.Path.{_≡_};
 ghost use Prim.Native.Nat.{_≤_};
 ghost use lib.ListN.{length};
 
+mod angles;
 mod calls;
 mod pairs;
 mod thrusts;

@@ -1,43 +1,24 @@
 -- What is known of rows that refusal 20 lets through: their numbers are not below zero and not too large, and their thrusts rise.
-use mathlib.Core.Path.{_≡_, refl, sym, ap, _∙_}
+use mathlib.Core.Path.{_≡_, sym, ap, _∙_}
 use mathlib.Core.Logic.{inl, inr}
-use mathlib.Core.Bool.{Bool, true, false, _&&_, and-assoc, true≢false}
+use mathlib.Core.Bool.{Bool, true, _&&_, and-assoc}
 use mathlib.Core.List.{List}
 use Prim.Native.Nat.{ℕ, zero, suc, _-_, _*_, _≤_, _<_}
-use native.Mathlib.Nat.{eq-or-lt-of-le, le-of-suc-le-suc, le-of-lt, le-of-eq, le-refl, mul-one, le-trans}
+use native.Mathlib.Nat.{eq-or-lt-of-le, le-of-suc-le-suc, le-of-lt, le-refl}
 use native.Mathlib.Omega.{arith}
-use lib.Dec.{leb}
-use lib.Ieee.{Float, le, round, ofInt}
+use lib.Dec.{leb, lit≤}
 use lib.Ieee.Positive.{num, den, den-pos}
 use borrow.Author.Tests.{le-leb, leb-true, ltb-true}
 use Rattle.quantity.proofs.Tests.{both}
 use Rattle.floats.specs.Arithmetic.{floatOf, within}
-use Rattle.floats.proofs.Nonnegative.{Nonnegative, within-nonnegative, lt-is, le-is, through-lt}
+use Rattle.floats.proofs.Nonnegative.{Nonnegative, lt-is, through-lt}
+use Rattle.floats.proofs.Ranges.{up-to-nonnegative, up-to-most}
 use Rattle.floats.proofs.Bounded.{AtMost, of-nonnegative}
 use Rattle.thrust.specs.Rows.{rowAt, every, inRange, rises, fit}
 use Rattle.thrust.specs.declared.Row.{Row}
 use Rattle.thrust.proofs.Walking.{step, every-at, every-both}
 
 -- ---- a row in range
-
-nonnegative-0 : Nonnegative (floatOf 0)
-unfolding ofInt round
-nonnegative-0 = λ h. refl
-
-nonnegative-1000 : Nonnegative (floatOf 1000)
-unfolding ofInt round
-nonnegative-1000 = λ h. absurd (true≢false (sym h))
-
-nonnegative-140 : Nonnegative (floatOf 140)
-unfolding ofInt round
-nonnegative-140 = λ h. absurd (true≢false (sym h))
-
--- a value from 0 to another is not below zero, and is at most that one as a fraction
-up-to-nonnegative : (top x : Float) → Nonnegative top → within (floatOf 0) top x ≡ true → Nonnegative x
-up-to-nonnegative top x t h = within-nonnegative (floatOf 0) x top nonnegative-0 t h
-
-up-to-cross : (top x : Float) → Nonnegative top → within (floatOf 0) top x ≡ true → num x * den top ≤ num top * den x
-up-to-cross top x t h = leb-true _ _ (sym (le-is x top (up-to-nonnegative top x t h) t) ∙ both (le (floatOf 0) x) (le x top) h .1)
 
 module _ (row : Row) (h : inRange row ≡ true) where
   thrust-within : within (floatOf 0) (floatOf 1000) (row .thrust) ≡ true
@@ -47,18 +28,16 @@ module _ (row : Row) (h : inRange row ≡ true) where
   level-within = both (within (floatOf 0) (floatOf 1000) (row .thrust)) (within (floatOf 0) (floatOf 140) (row .level)) h .1
 
   thrust-nonnegative : Nonnegative (row .thrust)
-  thrust-nonnegative = up-to-nonnegative (floatOf 1000) (row .thrust) nonnegative-1000 thrust-within
+  thrust-nonnegative = up-to-nonnegative 1000 (lit≤ tt) (row .thrust) thrust-within
 
   pub level-nonnegative : Nonnegative (row .level)
-  level-nonnegative = up-to-nonnegative (floatOf 140) (row .level) nonnegative-140 level-within
+  level-nonnegative = up-to-nonnegative 140 (lit≤ tt) (row .level) level-within
 
   pub thrust-at-most : num (row .thrust) ≤ 1000 * den (row .thrust)
-  unfolding ofInt round
-  thrust-at-most = le-trans (le-of-eq (sym (mul-one (num (row .thrust))))) (up-to-cross (floatOf 1000) (row .thrust) nonnegative-1000 thrust-within)
+  thrust-at-most = up-to-most 1000 (lit≤ tt) (row .thrust) thrust-within
 
   pub level-at-most : num (row .level) ≤ 140 * den (row .level)
-  unfolding ofInt round
-  level-at-most = le-trans (le-of-eq (sym (mul-one (num (row .level))))) (up-to-cross (floatOf 140) (row .level) nonnegative-140 level-within)
+  level-at-most = up-to-most 140 (lit≤ tt) (row .level) level-within
 
 -- ---- rows that are fit
 

@@ -1,60 +1,23 @@
 -- B.3 between two rows, in units: each of its six operations, what is known of its result, and how near the level is to the exact value.
 use mathlib.Core.Path.{_≡_, refl, sym, ap, ap₂, _∙_, subst}
 use mathlib.Core.Bool.{Bool, true, false, true≢false, false≢true}
-use Prim.Native.Nat.{ℕ, _+_, _-_, _*_, _/_, _^_, _≤_, _<_}
-use native.Mathlib.Nat.{le-trans, le-of-eq, not-le-of-lt, sub-eq-zero-of-le, one-mul, mul-add, add-mul, mul-pos, mul-le-mul, mul-le-mul-right, mul-div-cancel}
+use Prim.Native.Nat.{ℕ, _+_, _-_, _*_, _≤_, _<_}
+use native.Mathlib.Nat.{le-trans, le-of-eq, not-le-of-lt, sub-eq-zero-of-le, add-zero, one-mul, mul-add, mul-pos, mul-le-mul, mul-le-mul-right}
 use native.Mathlib.Omega.{arith}
 use lib.Dec.{T, lit≤}
-use lib.Ieee.{Float, nan, inf, fin, binary64, prec, down, unlike, add, sub, mul, div}
+use lib.Ieee.{Float, binary64, unlike, add, sub, mul, div}
 use lib.Ieee.Exact.{HasValue}
-use lib.Ieee.Fits.{down-pos}
 use lib.Ieee.Scale.{finite}
 use Rattle.quantity.specs.Numbers.{distance}
-use Rattle.quantity.proofs.Tests.{test}
-use Rattle.thrust_accuracy.specs.Distance.{unitsInOne as W, weighted, ExactLaw, partsInOne, Near, leastApart}
-use Rattle.thrust_accuracy.proofs.Rounding.{rounded, Close, rounded-close, Whole, rounded-whole}
-use Rattle.thrust_accuracy.proofs.Units.{one-positive, one-large, Sized}
-use Rattle.thrust_accuracy.proofs.Operations.{round-value, Minus, add-minus, add-plus, sub-minus, mul-is, div-is}
-use Rattle.thrust_accuracy.proofs.Chain.{product, Second, second, second-most, Third, third, plus-near, minus-near, below-near, product-most, level-most, grown, positive, above-times, below-times, over-one, quotient-most, rounded-most, apart, top-up, top-down, top-still}
+use Rattle.float_units.specs.Units.{unitsInOne as W, Near}
+use Rattle.float_units.proofs.Rounding.{rounded, Close, rounded-close, Whole}
+use Rattle.float_units.proofs.Units.{one-positive, one-large, Sized}
+use Rattle.float_units.proofs.Operations.{plusOf, minusOf, round-value, add-sized, sub-sized, Difference, difference, mul-is, div-is}
+use Rattle.float_units.proofs.Near.{finite-value, near-of, near-enough, signed}
+use Rattle.thrust_accuracy.specs.Distance.{weighted, ExactLaw, partsInOne, leastApart}
+use Rattle.thrust_accuracy.proofs.Chain.{product, Second, second, second-most, Third, third, sum-most, sum-near, product-most, level-most, grown, positive, over-one, quotient-most, rounded-most, apart, top-up, top-down, top-still}
 
 -- ---- what is known of a result
-
-finite-value : (z : Float) (s : Bool) (g : ℕ) → HasValue z s g W → T (finite z)
-finite-value nan s g v = absurd v
-finite-value (inf t) s g v = absurd v
-finite-value (fin t m e) s g v = tt
-
--- the units of a value, where it is near
-near-of : (z : Float) (s : Bool) (g top bottom : ℕ) → HasValue z s g W → (s ≡ false → partsInOne * distance (g * bottom) top ≤ bottom * W)
-    → (s ≡ true → partsInOne * (g * bottom + top) ≤ bottom * W) → Near z top bottom
-near-of nan s g top bottom v p q = absurd v
-near-of (inf t) s g top bottom v p q = absurd v
-near-of (fin false m e) s g top bottom v p q =
-    subst (λ (u : ℕ). partsInOne * distance (u * bottom) top ≤ bottom * W) (sym (ap (λ (z : ℕ). z / down e) (v .1) ∙ mul-div-cancel g (down-pos e))) (p (sym (v .0)))
-near-of (fin true m e) s g top bottom v p q =
-    subst (λ (u : ℕ). partsInOne * (u * bottom + top) ≤ bottom * W) (sym (ap (λ (z : ℕ). z / down e) (v .1) ∙ mul-div-cancel g (down-pos e))) (q (sym (v .0)))
-
--- X − Y, rounded
-pub record Difference (z : Float) (X Y : ℕ) : Type 0 where
-  pub sign : Bool
-  pub size : ℕ
-  pub value : HasValue z sign size W
-  pub whole : Whole (distance X Y) size
-  pub below : sign ≡ true → X ≤ Y
-  pub above : sign ≡ false → Y ≤ X
-
-difference : (z : Float) (X Y B : ℕ) → Minus z X Y W → X ≤ B * W → Y ≤ B * W → B ≤ 2 ^ prec binary64 → Difference z X Y
-difference z X Y B m h k small = record {
-  sign = m .sign;
-  size = rounded (distance X Y * W) W;
-  value = subst (λ (x : Float). HasValue x (m .sign) (rounded (distance X Y * W) W) W) (sym (m .same)) (round-value (m .sign) (distance X Y) W B one-positive (bound X Y (B * W) h k) small);
-  whole = rounded-whole (distance X Y) W one-positive;
-  below = m .below;
-  above = m .above;
-}
-  where
-    bound : (X Y T : ℕ) → X ≤ T → Y ≤ T → (X - Y) + (Y - X) ≤ T
-    bound X Y T h k = omega arith
 
 -- a product of sizes a and b
 pub record Product (z : Float) (s : Bool) (x : ℕ) : Type 0 where
@@ -85,42 +48,10 @@ divided x y s t p d v w e h = record {
   close = rounded-close (p * W) d e;
 }
 
--- the lower level plus a value of the sign s and the size q
-pub record Level (z : Float) (s : Bool) (L q : ℕ) : Type 0 where
-  pub sign : Bool
-  pub size : ℕ
-  pub value : HasValue z sign size W
-  pub plus : s ≡ false → (sign ≡ false) × Whole (L + q) size
-  pub minus : s ≡ true → Whole (distance L q) size × (sign ≡ true → L ≤ q) × (sign ≡ false → q ≤ L)
-
-raised : (x y : Float) (s : Bool) (L q : ℕ) → Sized x L → HasValue y s q W → L ≤ 140 * W → q ≤ 285 * W → Level (add binary64 x y) s L q
-raised x y false L q l v h k = record {
-  sign = false;
-  size = rounded ((L + q) * W) W;
-  value = subst (λ (z : Float). HasValue z false (rounded ((L + q) * W) W) W) (sym (add-plus x y L q l v)) (round-value false (L + q) W 425 one-positive (omega arith) (lit≤ tt));
-  plus = λ e. (refl, rounded-whole (L + q) W one-positive);
-  minus = λ e. absurd (false≢true e);
-}
-raised x y true L q l v h k =
-    let d = difference (add binary64 x y) L q 425 (add-minus x y L q l v) (omega arith) (omega arith) (lit≤ tt) in
-    record {
-      sign = d .sign;
-      size = d .size;
-      value = d .value;
-      plus = λ e. absurd (true≢false e);
-      minus = λ e. (d .whole, d .below, d .above);
-    }
-
 -- ---- the exact value, by the sign of what is added
 
 narrow : (X Y : ℕ) → Y ≤ X → distance X Y ≡ X - Y
 narrow X Y h = omega arith
-
-left-over : (X Y : ℕ) → Y ≤ X → distance X Y + Y ≡ X
-left-over X Y h = omega arith
-
-right-over : (X Y : ℕ) → X ≤ Y → distance X Y + X ≡ Y
-right-over X Y h = omega arith
 
 pub exact-law : ExactLaw
 exact-law l1 l2 F f1 f2 from to =
@@ -149,6 +80,16 @@ module _ (L1 L2 N N1 N2 : ℕ) (from : N1 ≤ N) (to : N ≤ N2) where
   still : N ≤ N1 → Up × Down
   still h = top-still (weighted L1 L2 N N1 N2) L1 L2 (distance L2 L1) (N2 - N1) (N - N1) (exact-law L1 L2 N N1 N2 from to) (sub-eq-zero-of-le h)
 
+-- ---- the sizes of a sum
+
+plus-most : (s : Bool) (L q : ℕ) → L ≤ 140 * W → q ≤ 285 * W → L + plusOf s q ≤ 425 * W
+plus-most false L q h k = omega arith
+plus-most true L q h k = omega arith
+
+minus-most : (s : Bool) (q : ℕ) → q ≤ 285 * W → minusOf s q ≤ 425 * W
+minus-most false q k = omega arith
+minus-most true q k = omega arith
+
 -- ---- the six operations
 
 -- the lower and the upper level, the thrust F, and the lower and the upper thrust, each with its units
@@ -166,14 +107,14 @@ pub record Setting (l1 l2 F f1 f2 : Float) (L1 L2 N N1 N2 : ℕ) : Type 0 where
   pub highest : N2 ≤ 1000 * W
 
 module _ {l1 l2 F f1 f2 : Float} {L1 L2 N N1 N2 : ℕ} (g : Setting l1 l2 F f1 f2 L1 L2 N N1 N2) where
-  levels : Difference (sub binary64 l2 l1) L2 L1
-  levels = difference (sub binary64 l2 l1) L2 L1 140 (sub-minus l2 l1 L2 L1 (g .upper-level) (g .lower-level)) (g .upper-most) (g .lower-most) (lit≤ tt)
+  levels : Difference (sub binary64 l2 l1) L2 L1 140
+  levels = difference (sub binary64 l2 l1) L2 L1 140 (sub-sized l2 l1 L2 L1 (g .upper-level) (g .lower-level)) (g .upper-most) (g .lower-most) (lit≤ tt)
 
-  thrusts : Difference (sub binary64 F f1) N N1
-  thrusts = difference (sub binary64 F f1) N N1 1000 (sub-minus F f1 N N1 (g .thrust) (g .lower-thrust)) (omega arith) (omega arith) (lit≤ tt)
+  thrusts : Difference (sub binary64 F f1) N N1 1000
+  thrusts = difference (sub binary64 F f1) N N1 1000 (sub-sized F f1 N N1 (g .thrust) (g .lower-thrust)) (omega arith) (omega arith) (lit≤ tt)
 
-  width : Difference (sub binary64 f2 f1) N2 N1
-  width = difference (sub binary64 f2 f1) N2 N1 1000 (sub-minus f2 f1 N2 N1 (g .upper-thrust) (g .lower-thrust)) (omega arith) (omega arith) (lit≤ tt)
+  width : Difference (sub binary64 f2 f1) N2 N1 1000
+  width = difference (sub binary64 f2 f1) N2 N1 1000 (sub-sized f2 f1 N2 N1 (g .upper-thrust) (g .lower-thrust)) (omega arith) (omega arith) (lit≤ tt)
 
   -- the exact differences, and their sizes
   abbrev A : ℕ
@@ -240,8 +181,11 @@ module _ {l1 l2 F f1 f2 : Float} {L1 L2 N N1 N2 : ℕ} (g : Setting l1 l2 F f1 f
   abbrev result : Float
   result = add binary64 l1 (div binary64 (mul binary64 (sub binary64 l2 l1) (sub binary64 F f1)) (sub binary64 f2 f1))
 
-  level : Level result sign-added L1 (added .size)
-  level = raised l1 (div binary64 (mul binary64 (sub binary64 l2 l1) (sub binary64 F f1)) (sub binary64 f2 f1)) sign-added L1 (added .size) (g .lower-level) (added .value) (g .lower-most) added-most
+  level : Difference result (L1 + plusOf sign-added (added .size)) (minusOf sign-added (added .size)) 425
+  level =
+      difference result (L1 + plusOf sign-added (added .size)) (minusOf sign-added (added .size)) 425
+      (add-sized l1 (div binary64 (mul binary64 (sub binary64 l2 l1) (sub binary64 F f1)) (sub binary64 f2 f1)) sign-added L1 (added .size) (g .lower-level) (added .value))
+      (plus-most sign-added L1 (added .size) (g .lower-most) added-most) (minus-most sign-added (added .size) added-most) (lit≤ tt)
 
   pub level-finite : T (finite result)
   level-finite = finite-value result (level .sign) (level .size) (level .value)
@@ -270,31 +214,23 @@ module _ {l1 l2 F f1 f2 : Float} {L1 L2 N N1 N2 : ℕ} (g : Setting l1 l2 F f1 f
     go true p false q h = exact-down L1 L2 N N1 N2 (g .from) (g .to) (levels .below p)
     go false p false q h = absurd (false≢true (sym (ap₂ (λ (x y : Bool). unlike (unlike x y) false) p q) ∙ h))
 
+  exact : top + minusOf sign-added (A * B) ≡ L1 * D + plusOf sign-added (A * B)
+  exact = go sign-added exact-plus exact-minus where
+    go : (s : Bool) → (s ≡ false → top ≡ L1 * D + A * B) → (s ≡ true → top + A * B ≡ L1 * D) → top + minusOf s (A * B) ≡ L1 * D + plusOf s (A * B)
+    go false p m = add-zero top ∙ p refl
+    go true p m = m refl ∙ sym (add-zero (L1 * D))
+
   -- how near it is
   module _ (wide : leastApart ≤ D) where
     to-quotient : Third (A * B) (D * W) (added .size * D)
     to-quotient =
         third (A * B) (D * W) W (multiple .size * W) D (width .size) (added .size) X-most multiple-most (apart W D (width .size) wide one-large (width-whole .above)) to-product (added .close) width-whole
 
-    near-plus : sign-added ≡ false → Near result top D
-    near-plus e =
-        let p = level .plus e in
-        near-of result (level .sign) (level .size) top D (level .value)
-        (λ h. plus-near (A * B) (D * W) (added .size * D) (L1 * D) (level .size * D) ((L1 + added .size) * D) top to-quotient (level-most L1 D W (g .lower-most))
-        (above-times (L1 + added .size) (level .size) D (p .1 .above)) (below-times (L1 + added .size) (level .size) D (p .1 .below)) (exact-plus e) (add-mul L1 (added .size) D))
-        (λ h. absurd (true≢false (sym h ∙ p .0)))
-
-    near-minus : sign-added ≡ true → Near result top D
-    near-minus e =
-        let p = level .minus e in
-        let Z = distance L1 (added .size) in
-        near-of result (level .sign) (level .size) top D (level .value)
-        (λ h. minus-near (A * B) (D * W) (added .size * D) (L1 * D) (level .size * D) (Z * D) top to-quotient (level-most L1 D W (g .lower-most))
-        (above-times Z (level .size) D (p .0 .above)) (below-times Z (level .size) D (p .0 .below)) (exact-minus e)
-        (sym (add-mul Z (added .size) D) ∙ ap (λ (z : ℕ). z * D) (left-over L1 (added .size) (p .2 h))))
-        (λ h. below-near (A * B) (D * W) (added .size * D) (L1 * D) (level .size * D) (Z * D) top to-quotient (level-most L1 D W (g .lower-most))
-        (above-times Z (level .size) D (p .0 .above)) (below-times Z (level .size) D (p .0 .below)) (exact-minus e)
-        (sym (add-mul Z L1 D) ∙ ap (λ (z : ℕ). z * D) (right-over L1 (added .size) (p .1 h))))
-
-    pub level-near : Near result top D
-    level-near = test sign-added near-minus near-plus
+    pub level-near : Near partsInOne result top 0 D
+    level-near =
+        let z = signed level in
+        let M = D * W in
+        let both =
+        sum-near sign-added (plusOf (level .sign) (level .size)) (minusOf (level .sign) (level .size)) L1 (added .size) D (A * B) M _ top (z .above) (z .below)
+        (sum-most sign-added L1 (added .size) D M (level-most L1 D W (g .lower-most)) (to-quotient .most)) to-quotient exact in
+        near-of partsInOne result (level .sign) (level .size) top 0 D (level .value) (near-enough _ _ M (both .0) (both .1))

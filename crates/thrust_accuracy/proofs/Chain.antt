@@ -1,12 +1,14 @@
 -- The errors of B.3 added up, over plain numbers: each operation adds one part in U, and half a unit where its exact result is no whole number of units.
 -- A, B, D are the exact differences of the levels, of the thrusts F − f1 and of the thrusts f2 − f1; a, b, d, p, q are the computed ones, and the product and the quotient.
-use mathlib.Core.Path.{_≡_, sym, ap, _∙_}
-use Prim.Native.Nat.{ℕ, _+_, _-_, _*_, _≤_, _<_}
-use native.Mathlib.Nat.{le-trans, le-of-eq, mul-zero, mul-comm, mul-add, mul-le-mul, mul-le-mul-left, mul-le-mul-right, le-of-mul-le-mul-right}
+use mathlib.Core.Path.{_≡_, ap, _∙_}
+use mathlib.Core.Bool.{Bool, true, false}
+use Prim.Native.Nat.{ℕ, _+_, _*_, _≤_, _<_}
+use native.Mathlib.Nat.{le-trans, le-of-eq, mul-zero, mul-comm, mul-le-mul, mul-le-mul-left, mul-le-mul-right, le-of-mul-le-mul-right}
 use native.Mathlib.Omega.{arith}
-use lib.Dec.{lit≤}
-use Rattle.thrust_accuracy.specs.Distance.{partsInOne, leastApart}
-use Rattle.thrust_accuracy.proofs.Rounding.{U, Close, Whole}
+use Rattle.quantity.specs.Numbers.{distance}
+use Rattle.float_units.proofs.Rounding.{U, Close, Whole}
+use Rattle.float_units.proofs.Operations.{plusOf, minusOf}
+use Rattle.thrust_accuracy.specs.Distance.{leastApart}
 
 -- ---- in the lemmas of plain numbers Ux stands for U × x: omega need not multiply by U then
 
@@ -114,69 +116,19 @@ third X M W P D d q h m r s c w =
     times-below : (q D d : ℕ) → U * D ≤ U * d + D → U * (q * D) ≤ U * (q * d) + q * D
     times-below q D d h = omega (arith, mul-le-mul-left q h)
 
--- ---- the sum with the lower level: L is l1 × D, G is g × D for the result g, Z is the exact sum times D, and top is L + X or L − X
+-- ---- the sum with the lower level: zp − zn is the result, q the size of the quotient and s its sign, d the size of the sum, and top the exact value times D
 
--- 1130 parts in U are less than 10^-12
-small-enough : (z M : ℕ) → U * z ≤ 1130 * M → partsInOne * z ≤ M
-small-enough z M h = omega arith
+sum-size : (s : Bool) (L q : ℕ) → distance (L + plusOf s q) (minusOf s q) ≤ L + q
+sum-size false L q = omega arith
+sum-size true L q = omega arith
 
-close-enough : (G top M : ℕ) → U * G ≤ U * top + 1130 * M → U * top ≤ U * G + 1130 * M → partsInOne * ((G - top) + (top - G)) ≤ M
-close-enough G top M u d = small-enough ((G - top) + (top - G)) M (omega arith)
+pub sum-most : (s : Bool) (L q D M : ℕ) → L * D ≤ 140 * M → q * D ≤ 143 * M → distance (L + plusOf s q) (minusOf s q) * D ≤ 283 * M
+sum-most s L q D M h k = le-trans (mul-le-mul-right D (sum-size s L q)) (omega arith)
 
-plus-above : (M Z UZ UG UL UQ UX Ut : ℕ) → Z ≤ 283 * M → UG ≤ UZ + Z → UZ ≡ UL + UQ → Ut ≡ UL + UX → UQ ≤ UX + 847 * M → UG ≤ Ut + 1130 * M
-plus-above M Z UZ UG UL UQ UX Ut h a z e t = omega arith
-
-plus-below : (M Z UZ UG UL UQ UX Ut : ℕ) → Z ≤ 283 * M → UZ ≤ UG + Z → UZ ≡ UL + UQ → Ut ≡ UL + UX → UX ≤ UQ + 847 * M → Ut ≤ UG + 1130 * M
-plus-below M Z UZ UG UL UQ UX Ut h b z e t = omega arith
-
-minus-above : (M Z UZ UG UL UQ UX Ut : ℕ) → Z ≤ 283 * M → UG ≤ UZ + Z → UZ + UQ ≡ UL → Ut + UX ≡ UL → UX ≤ UQ + 847 * M → UG ≤ Ut + 1130 * M
-minus-above M Z UZ UG UL UQ UX Ut h a z e t = omega arith
-
-minus-below : (M Z UZ UG UL UQ UX Ut : ℕ) → Z ≤ 283 * M → UZ ≤ UG + Z → UZ + UQ ≡ UL → Ut + UX ≡ UL → UQ ≤ UX + 847 * M → Ut ≤ UG + 1130 * M
-minus-below M Z UZ UG UL UQ UX Ut h b z e t = omega arith
-
-below-both : (M Z UZ UG UL UQ UX Ut : ℕ) → Z ≤ 283 * M → UG ≤ UZ + Z → UZ + UL ≡ UQ → Ut + UX ≡ UL → UQ ≤ UX + 847 * M → UG + Ut ≤ 1130 * M
-below-both M Z UZ UG UL UQ UX Ut h a z e t = omega arith
-
--- U times a sum
-times-sum : (x y z : ℕ) → x ≡ y + z → U * x ≡ U * y + U * z
-times-sum x y z e = ap (λ (n : ℕ). U * n) e ∙ mul-add U y z
-
-sum-times : (x y z : ℕ) → y + z ≡ x → U * y + U * z ≡ U * x
-sum-times x y z e = sym (times-sum x y z (sym e))
-
-sum-most : (M L Q Z : ℕ) → L ≤ 140 * M → Q ≤ 143 * M → Z ≡ L + Q → Z ≤ 283 * M
-sum-most M L Q Z h k z = omega arith
-
-less-most : (M L Q Z : ℕ) → L ≤ 283 * M → Z + Q ≡ L → Z ≤ 283 * M
-less-most M L Q Z h z = omega arith
-
-wider : (M L c : ℕ) → c ≤ 283 → L ≤ c * M → L ≤ 283 * M
-wider M L c h l = le-trans l (mul-le-mul-right M h)
-
-module _ (X M Q L G Z top : ℕ) (t : Third X M Q) (h : L ≤ 140 * M) (a : U * G ≤ U * Z + Z) (b : U * Z ≤ U * G + Z) where
-  pub plus-near : top ≡ L + X → Z ≡ L + Q → partsInOne * ((G - top) + (top - G)) ≤ M
-  plus-near e z =
-      let k = sum-most M L Q Z h (t .most) z in
-      close-enough G top M
-      (plus-above M Z (U * Z) (U * G) (U * L) (U * Q) (U * X) (U * top) k a (times-sum Z L Q z) (times-sum top L X e) (t .above))
-      (plus-below M Z (U * Z) (U * G) (U * L) (U * Q) (U * X) (U * top) k b (times-sum Z L Q z) (times-sum top L X e) (t .below))
-
-  -- q is at most l1
-  pub minus-near : top + X ≡ L → Z + Q ≡ L → partsInOne * ((G - top) + (top - G)) ≤ M
-  minus-near e z =
-      let k = less-most M L Q Z (wider M L 140 (lit≤ tt) h) z in
-      close-enough G top M
-      (minus-above M Z (U * Z) (U * G) (U * L) (U * Q) (U * X) (U * top) k a (sum-times L Z Q z) (sum-times L top X e) (t .below))
-      (minus-below M Z (U * Z) (U * G) (U * L) (U * Q) (U * X) (U * top) k b (sum-times L Z Q z) (sum-times L top X e) (t .above))
-
-  -- q is at least l1, and the level is negative or zero
-  pub below-near : top + X ≡ L → Z + L ≡ Q → partsInOne * (G + top) ≤ M
-  below-near e z =
-      let k = less-most M Q L Z (wider M Q 143 (lit≤ tt) (t .most)) z in
-      small-enough (G + top) M
-      (le-trans (le-of-eq (mul-add U G top))
-      (below-both M Z (U * Z) (U * G) (U * L) (U * Q) (U * X) (U * top) k a (sum-times Q Z L z) (sum-times L top X e) (t .above)))
+pub sum-near : (s : Bool) (zp zn L q D X M d top : ℕ) → U * (zp + minusOf s q) ≤ U * (zn + (L + plusOf s q)) + d → U * (zn + (L + plusOf s q)) ≤ U * (zp + minusOf s q) + d → d * D ≤ 283 * M
+    → Third X M (q * D) → top + minusOf s X ≡ L * D + plusOf s X → (U * (zp * D + 0) ≤ U * (zn * D + top) + 9007 * M) × (U * (zn * D + top) ≤ U * (zp * D + 0) + 9007 * M)
+sum-near false zp zn L q D X M d top h k m t e = (omega (arith, mul-le-mul-right D h, m, t .above, e), omega (arith, mul-le-mul-right D k, m, t .below, e))
+sum-near true zp zn L q D X M d top h k m t e = (omega (arith, mul-le-mul-right D h, m, t .below, e), omega (arith, mul-le-mul-right D k, m, t .above, e))
 
 -- ---- from the numbers to the products above
 
@@ -198,13 +150,6 @@ some Z g h k = omega arith
 
 pub positive : (Z g : ℕ) → 0 < Z → Whole Z g → 0 < g
 positive Z g h w = some Z g h (w .below)
-
--- a difference times D
-pub above-times : (Z g D : ℕ) → U * g ≤ U * Z + Z → U * (g * D) ≤ U * (Z * D) + Z * D
-above-times Z g D h = omega (arith, mul-le-mul-right D h)
-
-pub below-times : (Z g D : ℕ) → U * Z ≤ U * g + Z → U * (Z * D) ≤ U * (g * D) + Z * D
-below-times Z g D h = omega (arith, mul-le-mul-right D h)
 
 -- the rounded product over one W less
 pub over-one : (x W p : ℕ) → 0 < W → Close (x * W) (W * W) p → Close x W p

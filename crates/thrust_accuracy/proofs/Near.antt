@@ -22,8 +22,9 @@ use Rattle.thrust.specs.declared.Row.{Row}
 use Rattle.thrust.proofs.Walking.{lower-is-last}
 use Rattle.thrust.proofs.Fit.{Fit, fit-rows, in-range-at, nonnegative-at, level-nonnegative, thrust-at-most, level-at-most, level-at, strictly}
 use Rattle.thrust.proofs.Numbers.{F-nonnegative}
-use Rattle.thrust_accuracy.specs.Distance.{unitsOf, exactTop, exactBottom, Near, leastApart, DistanceLaw, FiniteLaw}
-use Rattle.thrust_accuracy.proofs.Units.{sized, units-le, units-lt, units-most}
+use Rattle.float_units.specs.Units.{unitsOf, Near}
+use Rattle.float_units.proofs.Units.{sized, units-le, units-lt, units-most}
+use Rattle.thrust_accuracy.specs.Distance.{exactTop, exactBottom, partsInOne, leastApart, DistanceLaw, FiniteLaw}
 use Rattle.thrust_accuracy.proofs.Between.{Setting, level-finite, level-near}
 
 module _ (rows : List Row) (count : ℕ) (F level : Float) (floats : AreFloats rows count) (f : T (fits binary64 F)) (g : levelAtThrust rows count F ≡ given level) where
@@ -85,12 +86,12 @@ module _ (rows : List Row) (count : ℕ) (F level : Float) (floats : AreFloats r
     between : levelBetween row next F ≡ level
     between = rw (ne-eqb place (count - 1) (λ e. omega arith)) at (answered .1)
 
-    between-near : leastApart ≤ exactBottom row next → Near (levelBetween row next F) (exactTop row next F) (exactBottom row next)
+    between-near : leastApart ≤ exactBottom row next → Near partsInOne (levelBetween row next F) (exactTop row next F) 0 (exactBottom row next)
     unfolding levelBetween
     between-near wide = level-near setting wide
 
-    given-near : leastApart ≤ exactBottom row next → Near level (exactTop row next F) (exactBottom row next)
-    given-near wide = subst (λ (z : Float). Near z (exactTop row next F) (exactBottom row next)) between (between-near wide)
+    given-near : leastApart ≤ exactBottom row next → Near partsInOne level (exactTop row next F) 0 (exactBottom row next)
+    given-near wide = subst (λ (z : Float). Near partsInOne z (exactTop row next F) 0 (exactBottom row next)) between (between-near wide)
 
     between-finite : T (finite (levelBetween row next F))
     unfolding levelBetween

@@ -127,3 +127,20 @@ rounded-whole m c C =
     let h = half-step n c C in
     let e = scaled n c C in
     whole-of m c (rounded n c) (step n c C) C (step-size n c C) (le-trans (le-of-eq (ap (λ (z : ℕ). 2 * z) (sym e))) (h .above)) (le-trans (h .below) (le-of-eq (ap (λ (z : ℕ). 2 * z + step n c C) e)))
+
+-- g is n / c up to k parts in U
+pub record Parts (k n c g : ℕ) : Type 0 where
+  pub above : U * (g * c) ≤ U * n + k * n
+  pub below : U * n ≤ U * (g * c) + k * n
+
+parts-of : (n c s x : ℕ) → U * c ≤ n → (s ≡ c) ⊎ (U * s ≤ 2 * n) → 2 * x ≤ 2 * n + s → 2 * n ≤ 2 * x + s → (U * x ≤ U * n + 1 * n) × (U * n ≤ U * x + 1 * n)
+parts-of n c s x l (inl e) h k = (omega arith, omega arith)
+parts-of n c s x l (inr e) h k = (omega arith, omega arith)
+
+-- a fraction of U units or more is off by one part at the most
+pub rounded-parts : (n c : ℕ) → 0 < c → U * c ≤ n → Parts 1 n c (rounded n c)
+rounded-parts n c C l =
+    let h = half-step n c C in
+    let e = scaled n c C in
+    let both = parts-of n c (step n c C) (rounded n c * c) l (step-size n c C) (le-trans (le-of-eq (ap (λ (z : ℕ). 2 * z) (sym e))) (h .above)) (le-trans (h .below) (le-of-eq (ap (λ (z : ℕ). 2 * z + step n c C) e))) in
+    record { above = both .0; below = both .1 }

@@ -14,7 +14,7 @@ use lib.Ieee.Order.{transfer}
 use lib.Ieee.Positive.{num, den, den-pos}
 use Rattle.floats.proofs.Nonnegative.{Nonnegative}
 use Rattle.floats.proofs.Exact.{fits-den, pow-back}
-use Rattle.thrust_accuracy.specs.Distance.{unitsInOne as W, unitsOf, leastApart}
+use Rattle.float_units.specs.Units.{unitsInOne as W, unitsOf}
 
 -- ---- how many make 1
 
@@ -26,7 +26,7 @@ pub one-positive : 0 < W
 unfolding W
 one-positive = lit< tt
 
-pub one-large : leastApart ≤ W
+pub one-large : 2 ^ 74 ≤ W
 unfolding W
 one-large = lit≤ tt
 
