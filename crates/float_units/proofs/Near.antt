@@ -1,10 +1,10 @@
 -- What is near an exact value, by the units above zero and below it: sums of values of any sign, and products of values above zero.
 use mathlib.Core.Path.{_≡_, refl, sym, ap, subst, _∙_}
 use mathlib.Core.Bool.{Bool, true, false}
-use Prim.Native.Nat.{ℕ, _+_, _*_, _/_, _^_, _≤_, _<_}
-use native.Mathlib.Nat.{le-trans, le-of-eq, mul-assoc, mul-pos, mul-le-mul-right, mul-div-cancel}
+use Prim.Native.Nat.{ℕ, _+_, _-_, _*_, _/_, _^_, _≤_, _<_}
+use native.Mathlib.Nat.{le-trans, le-of-eq, mul-assoc, mul-pos, mul-le-mul-left, mul-le-mul-right, le-of-mul-le-mul-right, mul-div-cancel}
 use native.Mathlib.Omega.{arith}
-use lib.Dec.{T}
+use lib.Dec.{T, lit<}
 use lib.Ieee.{Float, nan, inf, fin, binary64, prec, up, down, mul}
 use lib.Ieee.Exact.{HasValue}
 use lib.Ieee.Fits.{down-pos}
@@ -36,12 +36,15 @@ near-of parts (fin t m e) s g plus minus bottom v h = go t (v .0) where
   go false p = (tt, subst (λ (u : ℕ). parts * distance (u * bottom + minus) (0 * bottom + plus) ≤ bottom * W) (sym units) (subst (λ (b : Bool). parts * distance (plusOf b g * bottom + minus) (minusOf b g * bottom + plus) ≤ bottom * W) (sym p) h))
   go true p = (tt, subst (λ (u : ℕ). parts * distance (0 * bottom + minus) (u * bottom + plus) ≤ bottom * W) (sym units) (subst (λ (b : Bool). parts * distance (plusOf b g * bottom + minus) (minusOf b g * bottom + plus) ≤ bottom * W) (sym p) h))
 
--- 9007 parts in U are less than 10^-12
-small-enough : (z M : ℕ) → U * z ≤ 9007 * M → 10 ^ 12 * z ≤ M
-small-enough z M h = omega arith
+-- e parts in U are one of so many parts of 1 at the most, where their product is at most U
+apart : (x y E : ℕ) → U * x ≤ U * y + E → U * y ≤ U * x + E → U * ((x - y) + (y - x)) ≤ E
+apart x y E h k = omega arith
 
-pub near-enough : (x y M : ℕ) → U * x ≤ U * y + 9007 * M → U * y ≤ U * x + 9007 * M → 10 ^ 12 * distance x y ≤ M
-near-enough x y M h k = small-enough (distance x y) M (omega arith)
+pub near-enough : (parts e x y M : ℕ) → parts * e ≤ U → U * x ≤ U * y + e * M → U * y ≤ U * x + e * M → parts * distance x y ≤ M
+near-enough parts e x y M small h k =
+    le-of-mul-le-mul-right {k = U}
+    (omega (arith, mul-le-mul-left parts (apart x y (e * M) h k), mul-le-mul-right M small))
+    (lit< tt)
 
 -- ---- a rounded difference
 

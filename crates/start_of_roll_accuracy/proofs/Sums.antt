@@ -90,15 +90,7 @@ module _ {x y : Float} {P N e s Q R f r : ℕ} (small : s + r ≤ 2 ^ prec binar
       (plus-most (a .sign) _ _ (a .most)) (minus-most (a .sign) _ _ (a .most)) (minus-most (b .sign) _ _ (b .most)) (plus-most (b .sign) _ _ (b .most)) small
 
 -- so a sum is near its exact value, which is Q − R as it is stated
-pub near : {z : Float} {P N Q R e s : ℕ} → e ≤ 9007 → Part z P N e s → P ≡ Q → N ≡ R → Near partsInOne z Q R bottom
+pub near : {z : Float} {P N Q R e s : ℕ} → partsInOne * e ≤ U → Part z P N e s → P ≡ Q → N ≡ R → Near partsInOne z Q R bottom
 near {z} {P} {N} {Q} {R} {e} {s} few a p n = subst (λ (X : ℕ). Near partsInOne z X R bottom) p (subst (λ (X : ℕ). Near partsInOne z P X bottom) n found) where
-  more : (x : ℕ) {y z : ℕ} → y ≤ z → x + y ≤ x + z
-  more x h = omega arith
-
-  wider : (y : ℕ) → y + e * (bottom * W) ≤ y + 9007 * (bottom * W)
-  wider y = more y (mul-le-mul-right (bottom * W) few)
-
   found : Near partsInOne z P N bottom
-  found =
-      near-of partsInOne z (a .sign) (a .size) P N bottom (a .value)
-      (near-enough _ _ (bottom * W) (le-trans (a .off .above) (wider _)) (le-trans (a .off .below) (wider _)))
+  found = near-of partsInOne z (a .sign) (a .size) P N bottom (a .value) (near-enough partsInOne e _ _ (bottom * W) few (a .off .above) (a .off .below))

@@ -233,4 +233,4 @@ module _ {l1 l2 F f1 f2 : Float} {L1 L2 N N1 N2 : ℕ} (g : Setting l1 l2 F f1 f
         let both =
         sum-near sign-added (plusOf (level .sign) (level .size)) (minusOf (level .sign) (level .size)) L1 (added .size) D (A * B) M _ top (z .above) (z .below)
         (sum-most sign-added L1 (added .size) D M (level-most L1 D W (g .lower-most)) (to-quotient .most)) to-quotient exact in
-        near-of partsInOne result (level .sign) (level .size) top 0 D (level .value) (near-enough _ _ M (both .0) (both .1))
+        near-of partsInOne result (level .sign) (level .size) top 0 D (level .value) (near-enough partsInOne 1130 _ _ M (lit≤ tt) (both .0) (both .1))

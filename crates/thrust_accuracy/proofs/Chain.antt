@@ -126,7 +126,7 @@ pub sum-most : (s : Bool) (L q D M : ℕ) → L * D ≤ 140 * M → q * D ≤ 14
 sum-most s L q D M h k = le-trans (mul-le-mul-right D (sum-size s L q)) (omega arith)
 
 pub sum-near : (s : Bool) (zp zn L q D X M d top : ℕ) → U * (zp + minusOf s q) ≤ U * (zn + (L + plusOf s q)) + d → U * (zn + (L + plusOf s q)) ≤ U * (zp + minusOf s q) + d → d * D ≤ 283 * M
-    → Third X M (q * D) → top + minusOf s X ≡ L * D + plusOf s X → (U * (zp * D + 0) ≤ U * (zn * D + top) + 9007 * M) × (U * (zn * D + top) ≤ U * (zp * D + 0) + 9007 * M)
+    → Third X M (q * D) → top + minusOf s X ≡ L * D + plusOf s X → (U * (zp * D + 0) ≤ U * (zn * D + top) + 1130 * M) × (U * (zn * D + top) ≤ U * (zp * D + 0) + 1130 * M)
 sum-near false zp zn L q D X M d top h k m t e = (omega (arith, mul-le-mul-right D h, m, t .above, e), omega (arith, mul-le-mul-right D k, m, t .below, e))
 sum-near true zp zn L q D X M d top h k m t e = (omega (arith, mul-le-mul-right D h, m, t .below, e), omega (arith, mul-le-mul-right D k, m, t .above, e))
 
