@@ -28,13 +28,16 @@ pub near-of : (parts : ℕ) (z : Float) (s : Bool) (g plus minus bottom : ℕ) �
     → parts * distance (plusOf s g * bottom + minus) (minusOf s g * bottom + plus) ≤ bottom * W → Near parts z plus minus bottom
 near-of parts nan s g plus minus bottom v h = absurd v
 near-of parts (inf t) s g plus minus bottom v h = absurd v
-near-of parts (fin t m e) s g plus minus bottom v h = go t (v .0) where
-  units : m * up e * W / down e ≡ g
-  units = ap (λ (z : ℕ). z / down e) (v .1) ∙ mul-div-cancel g (down-pos e)
+near-of parts (fin t m e) s g plus minus bottom v h = go t (subst Apart (sym (v .0)) h) where
+  Apart : Bool → Type 0
+  Apart b = parts * distance (plusOf b g * bottom + minus) (minusOf b g * bottom + plus) ≤ bottom * W
 
-  go : (t : Bool) → t ≡ s → Near parts (fin t m e) plus minus bottom
-  go false p = (tt, subst (λ (u : ℕ). parts * distance (u * bottom + minus) (0 * bottom + plus) ≤ bottom * W) (sym units) (subst (λ (b : Bool). parts * distance (plusOf b g * bottom + minus) (minusOf b g * bottom + plus) ≤ bottom * W) (sym p) h))
-  go true p = (tt, subst (λ (u : ℕ). parts * distance (0 * bottom + minus) (u * bottom + plus) ≤ bottom * W) (sym units) (subst (λ (b : Bool). parts * distance (plusOf b g * bottom + minus) (minusOf b g * bottom + plus) ≤ bottom * W) (sym p) h))
+  units : g ≡ m * up e * W / down e
+  units = sym (ap (λ (z : ℕ). z / down e) (v .1) ∙ mul-div-cancel g (down-pos e))
+
+  go : (b : Bool) → Apart b → Near parts (fin b m e) plus minus bottom
+  go false k = (tt, subst (λ (u : ℕ). parts * distance (u * bottom + minus) (0 * bottom + plus) ≤ bottom * W) units k)
+  go true k = (tt, subst (λ (u : ℕ). parts * distance (0 * bottom + minus) (u * bottom + plus) ≤ bottom * W) units k)
 
 -- e parts in U are one of so many parts of 1 at the most, where their product is at most U
 apart : (x y E : ℕ) → U * x ≤ U * y + E → U * y ≤ U * x + E → U * ((x - y) + (y - x)) ≤ E

@@ -1,8 +1,8 @@
 -- Sums of terms of either sign, each off by some parts: errors add up, and each sum adds one part of its own size.
-use mathlib.Core.Path.{_≡_, ap, subst, _∙_}
+use mathlib.Core.Path.{_≡_, subst}
 use mathlib.Core.Bool.{Bool, true, false}
 use Prim.Native.Nat.{ℕ, _+_, _-_, _*_, _^_, _≤_}
-use native.Mathlib.Nat.{le-trans, le-of-eq, mul-comm, mul-assoc, mul-le-mul-left, mul-le-mul-right}
+use native.Mathlib.Nat.{mul-le-mul-left, mul-le-mul-right}
 use native.Mathlib.Omega.{arith}
 use lib.Ieee.{Float, binary64, prec, add, sub}
 use lib.Ieee.Exact.{HasValue}
@@ -15,25 +15,25 @@ use Rattle.start_of_roll_accuracy.specs.Distance.{bottom, partsInOne}
 
 -- ---- over plain numbers
 
--- p − n is (P − N) / B up to e parts in U of M / B
-pub record Off (B M p n P N e : ℕ) : Type 0 where
-  pub above : U * (p * B + N) ≤ U * (n * B + P) + e * M
-  pub below : U * (n * B + P) ≤ U * (p * B + N) + e * M
+-- p − n units are (P − N) / B of them up to e parts in U of 1
+pub record Off (B p n P N e : ℕ) : Type 0 where
+  pub above : U * (p * B + N) ≤ U * (n * B + P) + e * (B * W)
+  pub below : U * (n * B + P) ≤ U * (p * B + N) + e * (B * W)
 
 -- the sum of two, of which D is the size, itself off by one part
-sum-off : (B M zp zn p n q m P N Q R e f s D : ℕ) → U * (zp + (n + m)) ≤ U * (zn + (p + q)) + D → U * (zn + (p + q)) ≤ U * (zp + (n + m)) + D → D * B ≤ s * M
-    → Off B M p n P N e → Off B M q m Q R f → Off B M zp zn (P + Q) (N + R) (e + f + s)
-sum-off B M zp zn p n q m P N Q R e f s D h k l o o' = record {
-  above = omega (arith, mul-le-mul-right B h, l, o .above, o' .above);
-  below = omega (arith, mul-le-mul-right B k, l, o .below, o' .below);
+sum-off : (B zp zn p n q m P N Q R e f s D : ℕ) → U * (zp + (n + m)) ≤ U * (zn + (p + q)) + D → U * (zn + (p + q)) ≤ U * (zp + (n + m)) + D → D ≤ s * W
+    → Off B p n P N e → Off B q m Q R f → Off B zp zn (P + Q) (N + R) (e + f + s)
+sum-off B zp zn p n q m P N Q R e f s D h k l o o' = record {
+  above = omega (arith, mul-le-mul-right B h, mul-le-mul-right B l, o .above, o' .above);
+  below = omega (arith, mul-le-mul-right B k, mul-le-mul-right B l, o .below, o' .below);
 }
 
-turned : (B M q m Q R f : ℕ) → Off B M q m Q R f → Off B M m q R Q f
-turned B M q m Q R f o = record { above = o .below; below = o .above }
+turned : (B q m Q R f : ℕ) → Off B q m Q R f → Off B m q R Q f
+turned B q m Q R f o = record { above = o .below; below = o .above }
 
 -- a value above zero that is off by k of its own parts, and at most s in size
-pub term-off : (B M g P k s : ℕ) → Parts k P B g → P ≤ s * M → Off B M g 0 P 0 (k * s)
-term-off B M g P k s p h = record { above = omega (arith, p .above, mul-le-mul-left k h); below = omega (arith, p .below, mul-le-mul-left k h) }
+pub term-off : (B g P k s : ℕ) → Parts k P B g → P ≤ s * (B * W) → Off B g 0 P 0 (k * s)
+term-off B g P k s p h = record { above = omega (arith, p .above, mul-le-mul-left k h); below = omega (arith, p .below, mul-le-mul-left k h) }
 
 -- ---- of f64
 
@@ -43,7 +43,7 @@ pub record Part (z : Float) (P N e s : ℕ) : Type 0 where
   pub size : ℕ
   pub value : HasValue z sign size W
   pub most : size ≤ s * W
-  pub off : Off bottom (bottom * W) (plusOf sign size) (minusOf sign size) P N e
+  pub off : Off bottom (plusOf sign size) (minusOf sign size) P N e
 
 plus-most : (s : Bool) (X T : ℕ) → X ≤ T → plusOf s X ≤ T
 plus-most false X T h = h
@@ -59,14 +59,12 @@ both-most x y s r h k = omega arith
 apart-most : (x y T : ℕ) → x ≤ T → y ≤ T → (x - y) + (y - x) ≤ T
 apart-most x y T h k = omega arith
 
--- the size of a sum, over the bottom
-over-bottom : (D s B : ℕ) → D ≤ s * W → D * B ≤ s * (B * W)
-over-bottom D s B h = le-trans (mul-le-mul-right B h) (le-of-eq (mul-assoc s W B ∙ ap (λ (z : ℕ). s * z) (mul-comm W B)))
-
-rounded-sum : (z : Float) (p n P N e q m Q R f s r : ℕ) → Minus z (p + q) (n + m) W → Off bottom (bottom * W) p n P N e → Off bottom (bottom * W) q m Q R f
+rounded-sum : (z : Float) (p n P N e q m Q R f s r : ℕ) → Minus z (p + q) (n + m) W → Off bottom p n P N e → Off bottom q m Q R f
     → p ≤ s * W → n ≤ s * W → q ≤ r * W → m ≤ r * W → s + r ≤ 2 ^ prec binary64 → Part z (P + Q) (N + R) (e + f + (s + r)) (s + r)
 rounded-sum z p n P N e q m Q R f s r minus o o' hp hn hq hm small =
-    let d = difference z (p + q) (n + m) (s + r) minus (both-most p q s r hp hq) (both-most n m s r hn hm) small in
+    let above-most = both-most p q s r hp hq in
+    let below-most = both-most n m s r hn hm in
+    let d = difference z (p + q) (n + m) (s + r) minus above-most below-most small in
     let g = signed d in
     record {
       sign = d .sign;
@@ -74,8 +72,8 @@ rounded-sum z p n P N e q m Q R f s r minus o o' hp hn hq hm small =
       value = d .value;
       most = d .most;
       off =
-          sum-off bottom (bottom * W) (plusOf (d .sign) (d .size)) (minusOf (d .sign) (d .size)) p n q m P N Q R e f (s + r) (distance (p + q) (n + m)) (g .above) (g .below)
-          (over-bottom (distance (p + q) (n + m)) (s + r) bottom (apart-most (p + q) (n + m) ((s + r) * W) (both-most p q s r hp hq) (both-most n m s r hn hm))) o o';
+          sum-off bottom (plusOf (d .sign) (d .size)) (minusOf (d .sign) (d .size)) p n q m P N Q R e f (s + r) (distance (p + q) (n + m)) (g .above) (g .below)
+          (apart-most (p + q) (n + m) ((s + r) * W) above-most below-most) o o';
     }
 
 module _ {x y : Float} {P N e s Q R f r : ℕ} (small : s + r ≤ 2 ^ prec binary64) (a : Part x P N e s) (b : Part y Q R f r) where
@@ -86,7 +84,7 @@ module _ {x y : Float} {P N e s Q R f r : ℕ} (small : s + r ≤ 2 ^ prec binar
 
   pub minus : Part (sub binary64 x y) (P + R) (N + Q) (e + f + (s + r)) (s + r)
   minus =
-      rounded-sum (sub binary64 x y) _ _ P N e _ _ R Q f s r (sub-is x y (a .sign) (b .sign) (a .size) (b .size) (a .value) (b .value)) (a .off) (turned bottom (bottom * W) _ _ Q R f (b .off))
+      rounded-sum (sub binary64 x y) _ _ P N e _ _ R Q f s r (sub-is x y (a .sign) (b .sign) (a .size) (b .size) (a .value) (b .value)) (a .off) (turned bottom _ _ Q R f (b .off))
       (plus-most (a .sign) _ _ (a .most)) (minus-most (a .sign) _ _ (a .most)) (minus-most (b .sign) _ _ (b .most)) (plus-most (b .sign) _ _ (b .most)) small
 
 -- so a sum is near its exact value, which is Q − R as it is stated

@@ -130,7 +130,7 @@ constant-term {x} {d} {u} {s} v e a = record {
   value = a .value;
   most = a .most;
   off =
-      term-off bottom (bottom * W) (a .size) (d * W * v) 1 s (subst (λ (B : ℕ). Parts 1 (d * W * v) B (a .size)) e (widened v (a .parts)))
+      term-off bottom (a .size) (d * W * v) 1 s (subst (λ (B : ℕ). Parts 1 (d * W * v) B (a .size)) e (widened v (a .parts)))
       (subst (λ (B : ℕ). d * W * v ≤ s * (B * W)) e (omega (arith, mul-le-mul-right (W * v) (a .top))));
 }
 
@@ -161,17 +161,21 @@ module _ {x y : Float} {d u r k N c b : ℕ} (s : ℕ) (m : Small k d b u s) (a 
   product-least : W * W ≤ 100000 * (a .size * p .size)
   product-least = omega (arith, mul-le-mul (a .least) (p .least))
 
-  pub term : (v : ℕ) → u * c * v ≡ bottom → Part (mul binary64 x y) (d * N * v) 0 ((1 + k + 1 + 1 + 1) * s) s
+  -- the parts of the constant, of the power and of their product
+  abbrev lost : ℕ
+  lost = 1 + k + 1 + 1 + 1
+
+  pub term : (v : ℕ) → u * c * v ≡ bottom → Part (mul binary64 x y) (d * N * v) 0 (lost * s) s
   term v e =
       let q = product x y (a .size) (p .size) s (a .value) (p .value) product-most (m .2) (large-enough (a .size * p .size) product-least) in
-      let after : Parts (1 + k + 1 + 1 + 1) (d * W * N) (u * c * W) (q .size) = then {k = 1} (omega (arith, m .0)) before (q .parts) in
-      let over-one = narrowed W one-positive (subst (λ (n : ℕ). Parts (1 + k + 1 + 1 + 1) n (u * c * W) (q .size)) (mul-right-comm d W N) after) in
+      let after : Parts lost (d * W * N) (u * c * W) (q .size) = then {k = 1} (omega (arith, m .0)) before (q .parts) in
+      let over-one = narrowed W one-positive (subst (λ (n : ℕ). Parts lost n (u * c * W) (q .size)) (mul-right-comm d W N) after) in
       record {
         sign = false;
         size = q .size;
         value = q .value;
         most = q .most;
         off =
-            term-off bottom (bottom * W) (q .size) (d * N * v) (1 + k + 1 + 1 + 1) s (subst (λ (B : ℕ). Parts (1 + k + 1 + 1 + 1) (d * N * v) B (q .size)) e (widened v over-one))
+            term-off bottom (q .size) (d * N * v) lost s (subst (λ (B : ℕ). Parts lost (d * N * v) B (q .size)) e (widened v over-one))
             (subst (λ (B : ℕ). d * N * v ≤ s * (B * W)) e (omega (arith, mul-le-mul-right v (mul-le-mul-left d (p .top)), mul-le-mul-right (c * W * v) (m .1))));
       }

@@ -1,5 +1,5 @@
 -- Beside what document 02, W-207, asks: the correction that is given lies within 10^-12 dB of the exact value of B.14 or B.15, and it is finite. All numbers here
--- are whole: an angle of T units is T / W degrees, with W units in one (`float_units`), and the decimals of the formulas are counted in billionths.
+-- are whole: an angle of t units is t / W degrees, with W units in one (`float_units`), and the decimals of the formulas are counted in billionths.
 use mathlib.Core.Path.{_≡_}
 use Prim.Native.Nat.{ℕ, _+_, _-_, _*_, _^_}
 use lib.Dec.{T}
