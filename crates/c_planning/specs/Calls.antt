@@ -37,10 +37,10 @@ pub record CorrectionLent : Type 0 where
   pub correction : Float
 
 -- in front is 0, beside 1, behind 2; in front, 'with no number', the correction stays as it was
-abbrev pub corrected : CorrectionLent → Correction → CorrectionLent
-corrected lent in-front = record { position = 0; correction = lent .correction }
-corrected lent (beside correction) = record { position = 1; correction = correction }
-corrected lent (behind correction) = record { position = 2; correction = correction }
+abbrev pub written : CorrectionLent → Correction → CorrectionLent
+written lent in-front = record { position = 0; correction = lent .correction }
+written lent (beside correction) = record { position = 1; correction = correction }
+written lent (behind correction) = record { position = 2; correction = correction }
 
 abbrev pub correctionLeaves : CorrectionLent → Float → Left CorrectionLent
-correctionLeaves lent θ = leaves lent (correctionAtAngle θ) (corrected lent)
+correctionLeaves lent θ = leaves lent (correctionAtAngle θ) (written lent)
