@@ -4,3 +4,4 @@ pub mod Parts
 pub mod Units
 pub mod Operations
 pub mod Near
+pub mod Sums

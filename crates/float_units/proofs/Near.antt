@@ -4,11 +4,10 @@ use mathlib.Core.Bool.{Bool, true, false}
 use Prim.Native.Nat.{ℕ, _+_, _-_, _*_, _/_, _^_, _≤_, _<_}
 use native.Mathlib.Nat.{le-trans, le-of-eq, mul-assoc, mul-pos, mul-le-mul-left, mul-le-mul-right, le-of-mul-le-mul-right, mul-div-cancel}
 use native.Mathlib.Omega.{arith}
-use lib.Dec.{T, lit<}
+use lib.Dec.{lit<}
 use lib.Ieee.{Float, nan, inf, fin, binary64, prec, up, down, mul}
 use lib.Ieee.Exact.{HasValue}
 use lib.Ieee.Fits.{down-pos}
-use lib.Ieee.Scale.{finite}
 use Rattle.quantity.specs.Numbers.{distance}
 use Rattle.float_units.specs.Units.{unitsInOne as W, Near}
 use Rattle.float_units.proofs.Rounding.{U, Whole, Parts, rounded, rounded-parts}
@@ -17,11 +16,6 @@ use Rattle.float_units.proofs.Units.{one-positive}
 use Rattle.float_units.proofs.Operations.{plusOf, minusOf, round-value, round-most, Difference, mul-is}
 
 -- ---- a value by its sign and size
-
-pub finite-value : (z : Float) (s : Bool) (g : ℕ) → HasValue z s g W → T (finite z)
-finite-value nan s g v = absurd v
-finite-value (inf t) s g v = absurd v
-finite-value (fin t m e) s g v = tt
 
 -- it is near where its units above and below zero are
 pub near-of : (parts : ℕ) (z : Float) (s : Bool) (g plus minus bottom : ℕ) → HasValue z s g W

@@ -36,6 +36,13 @@ at-most-units (inf t) s g B a v = absurd v
 at-most-units (fin t m e) s g B a v =
     le-of-mul-le-mul-right (le-trans (le-of-eq (sym (v .1))) (le-trans (mul-le-mul-right W a) (le-of-eq (mul-right-comm B (down e) W)))) (down-pos e)
 
+-- and the other way round
+pub units-at-most : (z : Float) (s : Bool) (g B : ℕ) → HasValue z s g W → g ≤ B * W → AtMost B z
+units-at-most nan s g B v h = absurd v
+units-at-most (inf t) s g B v h = absurd v
+units-at-most (fin t m e) s g B v h =
+    le-of-mul-le-mul-right (le-trans (le-of-eq (v .1)) (le-trans (mul-le-mul-right (down e) h) (le-of-eq (mul-right-comm B W (down e))))) one-positive
+
 pub round-most : (s : Bool) (a c B : ℕ) → 0 < c → a ≤ B * c → B ≤ 2 ^ prec binary64 → rounded (a * W) c ≤ B * W
 round-most s a c B C h small = at-most-units (round binary64 s a c) s (rounded (a * W) c) B (round-at-most a c B C h small s) (round-value s a c B C h small)
 
@@ -164,12 +171,6 @@ sized-minus : (s : Bool) (X : ℕ) → (s ≡ true → X ≡ 0) → minusOf s X 
 sized-minus false X z = refl
 sized-minus true X z = z refl
 
-pub add-sized : (x y : Float) (t : Bool) (X Y : ℕ) → Sized x X → HasValue y t Y W → Minus (add binary64 x y) (X + plusOf t Y) (minusOf t Y) W
-add-sized x y t X Y s w =
-    subst (λ (n : ℕ). Minus (add binary64 x y) (X + plusOf t Y) n W) (ap (λ (n : ℕ). n + minusOf t Y) (sized-minus (s .sign) X (s .none)) ∙ zero-add (minusOf t Y))
-    (subst (λ (n : ℕ). Minus (add binary64 x y) (n + plusOf t Y) (minusOf (s .sign) X + minusOf t Y) W) (sized-plus (s .sign) X (s .none))
-    (add-is x y (s .sign) t X Y (s .value) w))
-
 pub sub-sized : (x y : Float) (X Y : ℕ) → Sized x X → Sized y Y → Minus (sub binary64 x y) X Y W
 sub-sized x y X Y s t =
     subst (λ (n : ℕ). Minus (sub binary64 x y) n Y W) (ap₂ (λ (m n : ℕ). m + n) (sized-plus (s .sign) X (s .none)) (sized-minus (t .sign) Y (t .none)) ∙ add-zero X)
@@ -185,6 +186,7 @@ pub record Difference (z : Float) (X Y B : ℕ) : Type 0 where
   pub size : ℕ
   pub value : HasValue z sign size W
   pub most : size ≤ B * W
+  pub apart : distance X Y ≤ B * W
   pub whole : Whole (distance X Y) size
   pub below : sign ≡ true → X ≤ Y
   pub above : sign ≡ false → Y ≤ X
@@ -195,6 +197,7 @@ difference z X Y B m h k small = record {
   size = rounded (distance X Y * W) W;
   value = subst (λ (x : Float). HasValue x (m .sign) (rounded (distance X Y * W) W) W) (sym (m .same)) (round-value (m .sign) (distance X Y) W B one-positive (bound X Y (B * W) h k) small);
   most = round-most (m .sign) (distance X Y) W B one-positive (bound X Y (B * W) h k) small;
+  apart = bound X Y (B * W) h k;
   whole = rounded-whole (distance X Y) W one-positive;
   below = m .below;
   above = m .above;

@@ -88,6 +88,13 @@ module _ (n c : ℕ) (C : 0 < c) where
   half-step : Half n step (kept 53 n c)
   half-step = closest-half n step (mul-pos C (pow-pos (drop 53 n c)))
 
+  -- so the rounded number is within half a step of n / c
+  above-step : 2 * (rounded n c * c) ≤ 2 * n + step
+  above-step = le-trans (le-of-eq (ap (λ (z : ℕ). 2 * z) (sym scaled))) (half-step .above)
+
+  below-step : 2 * n ≤ 2 * (rounded n c * c) + step
+  below-step = le-trans (half-step .below) (le-of-eq (ap (λ (z : ℕ). 2 * z + step) scaled))
+
 -- ---- how near the rounded number is
 
 -- g is n / c up to half a unit and one part in U
@@ -95,22 +102,29 @@ pub record Close (n c g : ℕ) : Type 0 where
   pub above : 2 * (U * (g * c)) ≤ 2 * (U * n) + 2 * n + U * c
   pub below : 2 * (U * n) ≤ 2 * (U * (g * c)) + 2 * n + U * c
 
-close-of : (n c s x : ℕ) → (s ≡ c) ⊎ (U * s ≤ 2 * n) → 2 * x ≤ 2 * n + s → 2 * n ≤ 2 * x + s
-    → (2 * (U * x) ≤ 2 * (U * n) + 2 * n + U * c) × (2 * (U * n) ≤ 2 * (U * x) + 2 * n + U * c)
-close-of n c s x (inl e) h k = (omega arith, omega arith)
-close-of n c s x (inr e) h k = (omega arith, omega arith)
+close-of : (n c g s : ℕ) → (s ≡ c) ⊎ (U * s ≤ 2 * n) → 2 * (g * c) ≤ 2 * n + s → 2 * n ≤ 2 * (g * c) + s → Close n c g
+close-of n c g s (inl e) h k = record { above = omega arith; below = omega arith }
+close-of n c g s (inr e) h k = record { above = omega arith; below = omega arith }
 
 pub rounded-close : (n c : ℕ) → 0 < c → Close n c (rounded n c)
-rounded-close n c C =
-    let h = half-step n c C in
-    let e = scaled n c C in
-    let both = close-of n c (step n c C) (rounded n c * c) (step-size n c C) (le-trans (le-of-eq (ap (λ (z : ℕ). 2 * z) (sym e))) (h .above)) (le-trans (h .below) (le-of-eq (ap (λ (z : ℕ). 2 * z + step n c C) e))) in
-    record { above = both .0; below = both .1 }
+rounded-close n c C = close-of n c (rounded n c) (step n c C) (step-size n c C) (above-step n c C) (below-step n c C)
+
+-- g is n / c up to k parts in U
+pub record Parts (k n c g : ℕ) : Type 0 where
+  pub above : U * (g * c) ≤ U * n + k * n
+  pub below : U * n ≤ U * (g * c) + k * n
+
+parts-of : (n c g s : ℕ) → U * c ≤ n → (s ≡ c) ⊎ (U * s ≤ 2 * n) → 2 * (g * c) ≤ 2 * n + s → 2 * n ≤ 2 * (g * c) + s → Parts 1 n c g
+parts-of n c g s l (inl e) h k = record { above = omega arith; below = omega arith }
+parts-of n c g s l (inr e) h k = record { above = omega arith; below = omega arith }
+
+-- a fraction of U units or more is off by one part at the most
+pub rounded-parts : (n c : ℕ) → 0 < c → U * c ≤ n → Parts 1 n c (rounded n c)
+rounded-parts n c C l = parts-of n c (rounded n c) (step n c C) l (step-size n c C) (above-step n c C) (below-step n c C)
 
 -- g is the whole number m up to one part in U
-pub record Whole (m g : ℕ) : Type 0 where
-  pub above : U * g ≤ U * m + m
-  pub below : U * m ≤ U * g + m
+abbrev pub Whole : (m g : ℕ) → Type 0
+Whole m g = Parts 1 m 1 g
 
 whole-of : (m c g s : ℕ) → 0 < c → (s ≡ c) ⊎ (U * s ≤ 2 * (m * c)) → 2 * (g * c) ≤ 2 * (m * c) + s → 2 * (m * c) ≤ 2 * (g * c) + s → Whole m g
 whole-of m c g s C (inl e) h k =
@@ -120,27 +134,8 @@ whole-of m c g s C (inl e) h k =
 whole-of m c g s C (inr e) h k =
     record { above = le-of-mul-le-mul-right {k = c} (omega arith) C; below = le-of-mul-le-mul-right {k = c} (omega arith) C }
 
--- where c divides n
+-- such is every whole number of units, however small
 pub rounded-whole : (m c : ℕ) → 0 < c → Whole m (rounded (m * c) c)
 rounded-whole m c C =
     let n = m * c in
-    let h = half-step n c C in
-    let e = scaled n c C in
-    whole-of m c (rounded n c) (step n c C) C (step-size n c C) (le-trans (le-of-eq (ap (λ (z : ℕ). 2 * z) (sym e))) (h .above)) (le-trans (h .below) (le-of-eq (ap (λ (z : ℕ). 2 * z + step n c C) e)))
-
--- g is n / c up to k parts in U
-pub record Parts (k n c g : ℕ) : Type 0 where
-  pub above : U * (g * c) ≤ U * n + k * n
-  pub below : U * n ≤ U * (g * c) + k * n
-
-parts-of : (n c s x : ℕ) → U * c ≤ n → (s ≡ c) ⊎ (U * s ≤ 2 * n) → 2 * x ≤ 2 * n + s → 2 * n ≤ 2 * x + s → (U * x ≤ U * n + 1 * n) × (U * n ≤ U * x + 1 * n)
-parts-of n c s x l (inl e) h k = (omega arith, omega arith)
-parts-of n c s x l (inr e) h k = (omega arith, omega arith)
-
--- a fraction of U units or more is off by one part at the most
-pub rounded-parts : (n c : ℕ) → 0 < c → U * c ≤ n → Parts 1 n c (rounded n c)
-rounded-parts n c C l =
-    let h = half-step n c C in
-    let e = scaled n c C in
-    let both = parts-of n c (step n c C) (rounded n c * c) l (step-size n c C) (le-trans (le-of-eq (ap (λ (z : ℕ). 2 * z) (sym e))) (h .above)) (le-trans (h .below) (le-of-eq (ap (λ (z : ℕ). 2 * z + step n c C) e))) in
-    record { above = both .0; below = both .1 }
+    whole-of m c (rounded n c) (step n c C) C (step-size n c C) (above-step n c C) (below-step n c C)

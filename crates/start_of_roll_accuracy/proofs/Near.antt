@@ -17,9 +17,9 @@ use Rattle.floats.proofs.Nonnegative.{Nonnegative}
 use Rattle.floats.proofs.Ranges.{up-to-nonnegative, up-to-most, from-least}
 use Rattle.float_units.specs.Units.{unitsInOne as W, unitsOf, Near}
 use Rattle.float_units.proofs.Units.{one-positive, cross, Sized, sized, units-most}
+use Rattle.float_units.proofs.Sums.{plus, minus, near}
 use Rattle.start_of_roll.specs.Correction.{in-front, beside, behind, square, cube, besideAt, behindAt, angleRules, placed}
 use Rattle.start_of_roll_accuracy.specs.Distance.{besidePlus, besideMinus, behindPlus, behindMinus, bottom, partsInOne, NearExact, DistanceLaw}
-use Rattle.start_of_roll_accuracy.proofs.Sums.{plus, minus, near}
 use Rattle.start_of_roll_accuracy.proofs.Terms.{constant, Angle, Power, first, next, constant-term, term}
 
 -- ---- the formulas at an angle of t units
@@ -38,7 +38,7 @@ module _ (θ : Float) (t : ℕ) (a : Angle θ t) where
       let c1 = term 280 (lit≤ tt, lit≤ tt, lit≤ tt) (constant 1553 3 2 (lit< tt, lit≤ tt, lit≤ tt, lit≤ tt)) (first a) (10 ^ 6 * (W * W)) (omega arith) in
       let c2 = term 491 (lit≤ tt, lit≤ tt, lit≤ tt) (constant 15147 6 1 (lit< tt, lit≤ tt, lit≤ tt, lit≤ tt)) squared (10 ^ 3 * W) (omega arith) in
       let c3 = term 276 (lit≤ tt, lit≤ tt, lit≤ tt) (constant 47173 9 1 (lit< tt, lit≤ tt, lit≤ tt, lit≤ tt)) cubed 1 (omega arith) in
-      near (lit≤ tt) (minus (lit≤ tt) (plus (lit≤ tt) (minus (lit≤ tt) c0 c1) c2) c3) (omega arith) (omega arith)
+      near partsInOne (besidePlus t) (besideMinus t) (lit≤ tt) (minus (lit≤ tt) (plus (lit≤ tt) (minus (lit≤ tt) c0 c1) c2) c3) (omega arith)
 
   pub behind-near : Near partsInOne (behindAt θ) (behindPlus t) (behindMinus t) bottom
   unfolding behindAt
@@ -47,7 +47,7 @@ module _ (θ : Float) (t : ℕ) (a : Angle θ t) where
       let c1 = term 465 (lit≤ tt, lit≤ tt, lit≤ tt) (constant 25802 4 3 (lit< tt, lit≤ tt, lit≤ tt, lit≤ tt)) (first a) (10 ^ 5 * (W * W)) (omega arith) in
       let c2 = term 148 (lit≤ tt, lit≤ tt, lit≤ tt) (constant 45545 7 1 (lit< tt, lit≤ tt, lit≤ tt, lit≤ tt)) squared (10 ^ 2 * W) (omega arith) in
       let c3 = term 258 (lit≤ tt, lit≤ tt, lit≤ tt) (constant 44193 9 1 (lit< tt, lit≤ tt, lit≤ tt, lit≤ tt)) cubed 1 (omega arith) in
-      near (lit≤ tt) (plus (lit≤ tt) (minus (lit≤ tt) (minus (lit≤ tt) c0 c1) c2) c3) (omega arith) (omega arith)
+      near partsInOne (behindPlus t) (behindMinus t) (lit≤ tt) (plus (lit≤ tt) (minus (lit≤ tt) (minus (lit≤ tt) c0 c1) c2) c3) (omega arith)
 
 -- ---- the angle of a correction that is given
 

@@ -10,12 +10,12 @@ use lib.Ieee.Exact.{HasValue}
 use Rattle.floats.specs.Arithmetic.{decimal}
 use Rattle.float_units.specs.Units.{unitsInOne as W}
 use Rattle.float_units.proofs.Rounding.{U, Parts, rounded, rounded-parts}
-use Rattle.float_units.proofs.Parts.{times, of, widened, narrowed, then}
+use Rattle.float_units.proofs.Parts.{times, of, widened, narrowed, grown, half, then}
 use Rattle.float_units.proofs.Units.{one-positive, one-large}
 use Rattle.float_units.proofs.Operations.{round-value, round-most}
 use Rattle.float_units.proofs.Near.{product}
+use Rattle.float_units.proofs.Sums.{Part, term-off}
 use Rattle.start_of_roll_accuracy.specs.Distance.{bottom}
-use Rattle.start_of_roll_accuracy.proofs.Sums.{Part, term-off}
 
 -- ---- a constant
 
@@ -28,13 +28,6 @@ pub record Constant (x : Float) (d u s : ℕ) : Type 0 where
   pub least : W ≤ 100000 * size
   pub top : d ≤ s * u
   pub positive : 0 < u
-
--- a value off by few parts is at least half of the exact one
-half : (k n x : ℕ) → 2 * k ≤ U → U * n ≤ U * x + k * n → n ≤ 2 * x
-half k n x h l = let m : 2 * k * n ≤ U * n = mul-le-mul-right n h in halved n x (k * n) (omega arith) l
-  where
-    halved : (n x z : ℕ) → 2 * z ≤ U * n → U * n ≤ U * x + z → n ≤ 2 * x
-    halved n x z h l = omega arith
 
 least-of : (d u g : ℕ) → 0 < d → 2 * u ≤ 100000 * d → d * W ≤ 2 * (g * u) → W ≤ 100000 * g
 least-of d u g D h k = le-of-mul-le-mul-right {k = d} (omega (arith, k, mul-le-mul-left g h)) D
@@ -64,7 +57,7 @@ module _ (digits places s : ℕ) (m : Moderate digits places s) where
     value = round-value false digits u s places-positive (m .2) (m .3);
     most = round-most false digits u s places-positive (m .2) (m .3);
     parts = off-by-one;
-    least = least-of digits u (rounded (digits * W) u) (m .0) (m .1) (half 1 (digits * W) (rounded (digits * W) u * u) (lit≤ tt) (off-by-one .below));
+    least = least-of digits u (rounded (digits * W) u) (m .0) (m .1) (half (lit≤ tt) off-by-one);
     top = m .2;
     positive = places-positive;
   }
@@ -115,7 +108,7 @@ next {y} {θ} {k} {N} {c} {b} {t} few small p a =
       size = q .size;
       value = q .value;
       parts = then {k = 1} (omega arith) (times t (p .parts)) (q .parts);
-      least = halved (p .size * t) (q .size) large (half 1 (p .size * t) (q .size * W) (lit≤ tt) (q .parts .below));
+      least = halved (p .size * t) (q .size) large (half (lit≤ tt) (q .parts));
       most = q .most;
       top = omega (arith, mul-le-mul (p .top) (a .most));
       positive = mul-pos (p .positive) one-positive;
@@ -123,7 +116,7 @@ next {y} {θ} {k} {N} {c} {b} {t} few small p a =
 
 -- ---- the constant term
 
-pub constant-term : {x : Float} {d u s : ℕ} (v : ℕ) → u * v ≡ bottom → Constant x d u s → Part x (d * W * v) 0 (1 * s) s
+pub constant-term : {x : Float} {d u s : ℕ} (v : ℕ) → u * v ≡ bottom → Constant x d u s → Part bottom x (d * W * v) 0 (1 * s) s
 constant-term {x} {d} {u} {s} v e a = record {
   sign = false;
   size = a .size;
@@ -135,13 +128,6 @@ constant-term {x} {d} {u} {s} v e a = record {
 }
 
 -- ---- a constant times a power
-
--- what is off by few parts is larger by a hundred thousandth at the most
-grown : (x n k : ℕ) → 100000 * k ≤ U → U * x ≤ U * n + k * n → 100000 * x ≤ 100001 * n
-grown x n k h l = let m : 100000 * k * n ≤ U * n = mul-le-mul-right n h in fewer x n (k * n) (omega arith) l
-  where
-    fewer : (x n z : ℕ) → 100000 * z ≤ U * n → U * x ≤ U * n + z → 100000 * x ≤ 100001 * n
-    fewer x n z h l = omega arith
 
 -- few parts, and a term d / u × b that is at most s, a hundred thousandth more included
 abbrev Small : (k d b u s : ℕ) → Type 0
@@ -155,7 +141,7 @@ module _ {x y : Float} {d u r k N c b : ℕ} (s : ℕ) (m : Small k d b u s) (a 
   product-most : a .size * p .size ≤ s * (W * W)
   product-most =
       le-of-mul-le-mul-right {k = u * c}
-      (omega (arith, grown (a .size * p .size * (u * c)) (d * W * N) (1 + k + 1) (omega (arith, m .0)) (before .above), mul-le-mul-left (d * W) (p .top), mul-le-mul-right (c * (W * W)) (m .1)))
+      (omega (arith, grown 100000 (omega (arith, m .0)) before, mul-le-mul-left (d * W) (p .top), mul-le-mul-right (c * (W * W)) (m .1)))
       (mul-pos (a .positive) (p .positive))
 
   product-least : W * W ≤ 100000 * (a .size * p .size)
@@ -165,7 +151,7 @@ module _ {x y : Float} {d u r k N c b : ℕ} (s : ℕ) (m : Small k d b u s) (a 
   abbrev lost : ℕ
   lost = 1 + k + 1 + 1 + 1
 
-  pub term : (v : ℕ) → u * c * v ≡ bottom → Part (mul binary64 x y) (d * N * v) 0 (lost * s) s
+  pub term : (v : ℕ) → u * c * v ≡ bottom → Part bottom (mul binary64 x y) (d * N * v) 0 (lost * s) s
   term v e =
       let q = product x y (a .size) (p .size) s (a .value) (p .value) product-most (m .2) (large-enough (a .size * p .size) product-least) in
       let after : Parts lost (d * W * N) (u * c * W) (q .size) = then {k = 1} (omega (arith, m .0)) before (q .parts) in

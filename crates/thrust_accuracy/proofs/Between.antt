@@ -2,20 +2,22 @@
 use mathlib.Core.Path.{_≡_, refl, sym, ap, ap₂, _∙_, subst}
 use mathlib.Core.Bool.{Bool, true, false, true≢false, false≢true}
 use Prim.Native.Nat.{ℕ, _+_, _-_, _*_, _≤_, _<_}
-use native.Mathlib.Nat.{le-trans, le-of-eq, not-le-of-lt, sub-eq-zero-of-le, add-zero, one-mul, mul-add, mul-pos, mul-le-mul, mul-le-mul-right}
+use native.Mathlib.Nat.{le-trans, le-of-eq, not-le-of-lt, sub-eq-zero-of-le, one-mul, mul-add, mul-pos, mul-le-mul, mul-le-mul-right}
 use native.Mathlib.Omega.{arith}
 use lib.Dec.{T, lit≤}
 use lib.Ieee.{Float, binary64, unlike, add, sub, mul, div}
 use lib.Ieee.Exact.{HasValue}
 use lib.Ieee.Scale.{finite}
 use Rattle.quantity.specs.Numbers.{distance}
+use Rattle.floats.proofs.Bounded.{is-finite, plus as plus-at-most}
 use Rattle.float_units.specs.Units.{unitsInOne as W, Near}
 use Rattle.float_units.proofs.Rounding.{rounded, Close, rounded-close, Whole}
+use Rattle.float_units.proofs.Parts.{times, of, then}
 use Rattle.float_units.proofs.Units.{one-positive, one-large, Sized}
-use Rattle.float_units.proofs.Operations.{plusOf, minusOf, round-value, add-sized, sub-sized, Difference, difference, mul-is, div-is}
-use Rattle.float_units.proofs.Near.{finite-value, near-of, near-enough, signed}
+use Rattle.float_units.proofs.Operations.{plusOf, minusOf, round-value, units-at-most, sub-sized, Difference, difference, mul-is, div-is}
+use Rattle.float_units.proofs.Sums.{Part, signed-off, exact-part, plus, near}
 use Rattle.thrust_accuracy.specs.Distance.{weighted, ExactLaw, partsInOne, leastApart}
-use Rattle.thrust_accuracy.proofs.Chain.{product, Second, second, second-most, Third, third, sum-most, sum-near, product-most, level-most, grown, positive, over-one, quotient-most, rounded-most, apart, top-up, top-down, top-still}
+use Rattle.thrust_accuracy.proofs.Chain.{Second, second, second-most, Third, third, product-most, positive, over-one, quotient-most, rounded-most, apart, top-up, top-down, top-still}
 
 -- ---- what is known of a result
 
@@ -25,12 +27,12 @@ pub record Product (z : Float) (s : Bool) (x : ℕ) : Type 0 where
   pub value : HasValue z s size W
   pub close : Close x W size
 
-multiplied : (x y : Float) (s t : Bool) (a b : ℕ) → HasValue x s a W → HasValue y t b W → a ≤ 141 * W → b ≤ 1001 * W → Product (mul binary64 x y) (unlike s t) (a * b)
+multiplied : (x y : Float) (s t : Bool) (a b : ℕ) → HasValue x s a W → HasValue y t b W → a ≤ 140 * W → b ≤ 1000 * W → Product (mul binary64 x y) (unlike s t) (a * b)
 multiplied x y s t a b v w h k = record {
   size = rounded (a * b * W) (W * W);
   value =
       subst (λ (z : Float). HasValue z (unlike s t) (rounded (a * b * W) (W * W)) W) (sym (mul-is x y s t a b v w))
-      (round-value (unlike s t) (a * b) (W * W) 141141 (mul-pos one-positive one-positive) (omega (arith, mul-le-mul h k)) (lit≤ tt));
+      (round-value (unlike s t) (a * b) (W * W) 140000 (mul-pos one-positive one-positive) (omega (arith, mul-le-mul h k)) (lit≤ tt));
   close = over-one (a * b) W (rounded (a * b * W) (W * W)) one-positive (rounded-close (a * b * W) (W * W) (mul-pos one-positive one-positive));
 }
 
@@ -79,16 +81,6 @@ module _ (L1 L2 N N1 N2 : ℕ) (from : N1 ≤ N) (to : N ≤ N2) where
 
   still : N ≤ N1 → Up × Down
   still h = top-still (weighted L1 L2 N N1 N2) L1 L2 (distance L2 L1) (N2 - N1) (N - N1) (exact-law L1 L2 N N1 N2 from to) (sub-eq-zero-of-le h)
-
--- ---- the sizes of a sum
-
-plus-most : (s : Bool) (L q : ℕ) → L ≤ 140 * W → q ≤ 285 * W → L + plusOf s q ≤ 425 * W
-plus-most false L q h k = omega arith
-plus-most true L q h k = omega arith
-
-minus-most : (s : Bool) (q : ℕ) → q ≤ 285 * W → minusOf s q ≤ 425 * W
-minus-most false q k = omega arith
-minus-most true q k = omega arith
 
 -- ---- the six operations
 
@@ -141,24 +133,18 @@ module _ {l1 l2 F f1 f2 : Float} {L1 L2 N N1 N2 : ℕ} (g : Setting l1 l2 F f1 f
   width-whole : Whole D (width .size)
   width-whole = subst (λ (z : ℕ). Whole z (width .size)) (narrow N2 N1 (omega arith)) (width .whole)
 
-  levels-most : levels .size ≤ 141 * W
-  levels-most = le-trans (grown A (levels .size) W (omega arith) (levels .whole)) (omega arith)
-
-  thrusts-most : thrusts .size ≤ 1001 * W
-  thrusts-most = le-trans (grown B (thrusts .size) W (omega arith) thrusts-whole) (omega arith)
-
   width-positive : 0 < width .size
   width-positive = positive D (width .size) D-positive width-whole
 
   -- the product
   multiple : Product (mul binary64 (sub binary64 l2 l1) (sub binary64 F f1)) (unlike (levels .sign) (thrusts .sign)) (levels .size * thrusts .size)
-  multiple = multiplied (sub binary64 l2 l1) (sub binary64 F f1) (levels .sign) (thrusts .sign) (levels .size) (thrusts .size) (levels .value) (thrusts .value) levels-most thrusts-most
+  multiple = multiplied (sub binary64 l2 l1) (sub binary64 F f1) (levels .sign) (thrusts .sign) (levels .size) (thrusts .size) (levels .value) (thrusts .value) (levels .most) (thrusts .most)
 
   X-most : A * B ≤ 140 * (D * W)
   X-most = product-most A B D W A-most B-most
 
   to-product : Second (A * B) (D * W) W (multiple .size * W)
-  to-product = second (A * B) (D * W) W (levels .size * thrusts .size) (multiple .size) X-most (product A B (levels .size) (thrusts .size) (levels .whole) thrusts-whole) (multiple .close)
+  to-product = second (A * B) (D * W) W (levels .size * thrusts .size) (multiple .size) X-most (then (lit≤ tt) (times B (levels .whole)) (of (levels .size) thrusts-whole)) (multiple .close)
 
   multiple-most : multiple .size * W ≤ 142 * (D * W)
   multiple-most = second-most (A * B) (D * W) W (multiple .size * W) X-most (le-trans (le-of-eq (sym (one-mul W))) (mul-le-mul-right W D-positive)) to-product
@@ -170,25 +156,21 @@ module _ {l1 l2 F f1 f2 : Float} {L1 L2 N N1 N2 : ℕ} (g : Setting l1 l2 F f1 f
   added : Quotient (div binary64 (mul binary64 (sub binary64 l2 l1) (sub binary64 F f1)) (sub binary64 f2 f1)) sign-added (multiple .size) (width .size)
   added =
       divided (mul binary64 (sub binary64 l2 l1) (sub binary64 F f1)) (sub binary64 f2 f1) (unlike (levels .sign) (thrusts .sign)) (width .sign) (multiple .size) (width .size)
-      (multiple .value) (width .value) width-positive (quotient-most (multiple .size) W D (width .size) one-positive multiple-most (width-whole .below))
+      (multiple .value) (width .value) width-positive (quotient-most (multiple .size) W D (width .size) one-positive multiple-most width-whole)
 
   added-most : added .size ≤ 285 * W
   added-most =
       rounded-most (added .size) (multiple .size) W (width .size) one-positive width-positive
-      (quotient-most (multiple .size) W D (width .size) one-positive multiple-most (width-whole .below)) (added .close)
+      (quotient-most (multiple .size) W D (width .size) one-positive multiple-most width-whole) (added .close)
 
   -- the level
-  abbrev result : Float
-  result = add binary64 l1 (div binary64 (mul binary64 (sub binary64 l2 l1) (sub binary64 F f1)) (sub binary64 f2 f1))
+  abbrev quotient : Float
+  quotient = div binary64 (mul binary64 (sub binary64 l2 l1) (sub binary64 F f1)) (sub binary64 f2 f1)
 
-  level : Difference result (L1 + plusOf sign-added (added .size)) (minusOf sign-added (added .size)) 425
-  level =
-      difference result (L1 + plusOf sign-added (added .size)) (minusOf sign-added (added .size)) 425
-      (add-sized l1 (div binary64 (mul binary64 (sub binary64 l2 l1) (sub binary64 F f1)) (sub binary64 f2 f1)) sign-added L1 (added .size) (g .lower-level) (added .value))
-      (plus-most sign-added L1 (added .size) (g .lower-most) added-most) (minus-most sign-added (added .size) added-most) (lit≤ tt)
-
-  pub level-finite : T (finite result)
-  level-finite = finite-value result (level .sign) (level .size) (level .value)
+  pub level-finite : T (finite (add binary64 l1 quotient))
+  level-finite =
+      is-finite 425 (add binary64 l1 quotient)
+      (plus-at-most 140 285 l1 quotient (units-at-most l1 _ L1 140 (g .lower-level .value) (g .lower-most)) (units-at-most quotient _ (added .size) 285 (added .value) added-most) (lit≤ tt))
 
   -- the exact value, by the sign of the quotient
   abbrev top : ℕ
@@ -214,23 +196,23 @@ module _ {l1 l2 F f1 f2 : Float} {L1 L2 N N1 N2 : ℕ} (g : Setting l1 l2 F f1 f
     go true p false q h = exact-down L1 L2 N N1 N2 (g .from) (g .to) (levels .below p)
     go false p false q h = absurd (false≢true (sym (ap₂ (λ (x y : Bool). unlike (unlike x y) false) p q) ∙ h))
 
-  exact : top + minusOf sign-added (A * B) ≡ L1 * D + plusOf sign-added (A * B)
+  exact : L1 * D + plusOf sign-added (A * B) + 0 ≡ top + (0 + minusOf sign-added (A * B))
   exact = go sign-added exact-plus exact-minus where
-    go : (s : Bool) → (s ≡ false → top ≡ L1 * D + A * B) → (s ≡ true → top + A * B ≡ L1 * D) → top + minusOf s (A * B) ≡ L1 * D + plusOf s (A * B)
-    go false p m = add-zero top ∙ p refl
-    go true p m = m refl ∙ sym (add-zero (L1 * D))
+    go : (s : Bool) → (s ≡ false → top ≡ L1 * D + A * B) → (s ≡ true → top + A * B ≡ L1 * D) → L1 * D + plusOf s (A * B) + 0 ≡ top + (0 + minusOf s (A * B))
+    go false p m = omega (arith, p refl)
+    go true p m = omega (arith, m refl)
 
   -- how near it is
   module _ (wide : leastApart ≤ D) where
     to-quotient : Third (A * B) (D * W) (added .size * D)
     to-quotient =
-        third (A * B) (D * W) W (multiple .size * W) D (width .size) (added .size) X-most multiple-most (apart W D (width .size) wide one-large (width-whole .above)) to-product (added .close) width-whole
+        third (A * B) (D * W) W (multiple .size * W) D (width .size) (added .size) X-most multiple-most (apart W D (width .size) wide one-large width-whole) to-product (added .close) width-whole
 
-    pub level-near : Near partsInOne result top 0 D
-    level-near =
-        let z = signed level in
-        let M = D * W in
-        let both =
-        sum-near sign-added (plusOf (level .sign) (level .size)) (minusOf (level .sign) (level .size)) L1 (added .size) D (A * B) M _ top (z .above) (z .below)
-        (sum-most sign-added L1 (added .size) D M (level-most L1 D W (g .lower-most)) (to-quotient .most)) to-quotient exact in
-        near-of partsInOne result (level .sign) (level .size) top 0 D (level .value) (near-enough partsInOne 1130 _ _ M (lit≤ tt) (both .0) (both .1))
+    lower : Part D l1 (L1 * D) 0 0 140
+    lower = exact-part D (g .lower-level) (g .lower-most)
+
+    raise : Part D quotient (plusOf sign-added (A * B)) (minusOf sign-added (A * B)) 847 285
+    raise = record { sign = sign-added; size = added .size; value = added .value; most = added-most; off = signed-off sign-added D (added .size) (A * B) 847 (to-quotient .above) (to-quotient .below) }
+
+    pub level-near : Near partsInOne (add binary64 l1 quotient) top 0 D
+    level-near = near partsInOne top 0 (lit≤ tt) (plus (lit≤ tt) lower raise) exact
