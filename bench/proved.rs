@@ -4,20 +4,20 @@ use crate::{Ledger, Offer};
 const NOTHING: u32 = u32::MAX;
 
 // A day as it is lent: MOATBURDOCK_DAY_WORDS of include/moatburdock.h. The library that is linked is named in bench/run.
-type Cell = u32;
-const CELLS: usize = 320;
+type Word = u32;
+const WORDS: usize = 320;
 
 extern "C" {
-    fn moatburdock_open_day(day: *mut Cell, rate: u32, first: u32, last: u32, end: i32, daytime: *const u16, classes: usize, night: *const u16,
+    fn moatburdock_open_day(day: *mut Word, rate: u32, first: u32, last: u32, end: i32, daytime: *const u16, classes: usize, night: *const u16,
         others: usize) -> u8;
-    fn moatburdock_offer(day: *mut Cell, start: i32, class: u8, wind: u16, wet: bool, background: u32, samples: *const u16, count: usize, exposure: *mut u32,
+    fn moatburdock_offer(day: *mut Word, start: i32, class: u8, wind: u16, wet: bool, background: u32, samples: *const u16, count: usize, exposure: *mut u32,
         lmax: *mut u32) -> u8;
-    fn moatburdock_close_day(day: *const Cell, before: u32, after: u32, record: *mut u64, counts: *mut u32, highest_by_class: *mut u32)
+    fn moatburdock_close_day(day: *const Word, before: u32, after: u32, record: *mut u64, counts: *mut u32, highest_by_class: *mut u32)
         -> u8;
     fn moatburdock_year_mean(records: *const u64, count: usize, level: *mut u32) -> u8;
 }
 
-pub struct Day([Cell; CELLS]);
+pub struct Day(pub [Word; WORDS]);
 
 fn level(n: u32) -> Option<u32> {
     if n == NOTHING { None } else { Some(n) }
@@ -27,7 +27,7 @@ impl Ledger for Day {
     type Year = Vec<u64>;
 
     fn open(daytime: &[u16], night: &[u16]) -> Self {
-        let mut day = [0; CELLS];
+        let mut day = [0; WORDS];
         unsafe { moatburdock_open_day(day.as_mut_ptr(), 10, 216000, 791999, -6000, daytime.as_ptr(), daytime.len(), night.as_ptr(), night.len()) };
         Day(day)
     }

@@ -1,13 +1,26 @@
-/* Opens a day, offers two fly-overs, closes it, forms a year of such days and its verdict, holds the tower's log against the fly-overs, opens the next day,
- * with a fly-over at midnight, and asks for the level at thrusts and for the correction at angles. Built and run by examples/run_c. */
+/* Opens a day, offers two fly-overs, asks for the energy of their hours, closes it, forms a year of such days and its verdict, holds the tower's log against
+ * the fly-overs, opens the next day, with a fly-over at midnight, and asks for the level at thrusts and for the correction at angles. Built and run by
+ * examples/run_c. */
 #include "moatburdock.h"
 
+#include <inttypes.h>
 #include <stdio.h>
 
 static int failed(const char *call, uint8_t answer) {
     if (answer != 0)
         printf("%s is refused: %u\n", call, answer);
     return answer != 0;
+}
+
+/* The energy of the clock hours of the two fly-overs, in two halves, and as a double in units of a sample of 0 dB. */
+static void energies_of_hours(const uint32_t day[MOATBURDOCK_DAY_WORDS]) {
+    const uint32_t asked[] = {12, 23};
+    for (int i = 0; i < 2; i++) {
+        uint64_t energy[2] = {0};
+        moatburdock_hour_energy(day, asked[i], energy);
+        const double samples = ((double)energy[0] + 18446744073709551616.0 * (double)energy[1]) / 1e9;
+        printf("hour %" PRIu32 ": energy %" PRIu64 " and %" PRIu64 " times 2^64, as of %.0f samples of 0 dB\n", asked[i], energy[0], energy[1], samples);
+    }
 }
 
 /* The level of an engine at thrusts in kN, from levels in dB that were measured at four of them: between two rows, at the last one and behind it. */
@@ -62,6 +75,8 @@ int main(void) {
             return 1;
         printf("fly-over %d: LAE %u.%02u dB, Lmax %u.%02u dB\n", i + 1, exposure / 100, exposure % 100, lmax / 100, lmax % 100);
     }
+
+    energies_of_hours(day);
 
     uint64_t record = 0;
     uint32_t counts[3] = {0}, highest_by_class[MOATBURDOCK_CLASSES] = {0};

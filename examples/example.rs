@@ -1,5 +1,5 @@
-// Opens a day, offers two fly-overs, closes it, forms a year of such days, holds the tower's log against the fly-overs, opens the next day, with a fly-over
-// at midnight, and asks for the level at thrusts and for the correction at angles. Built and run by examples/run_rust.
+// Opens a day, offers two fly-overs, asks for the energy of their hours, closes it, forms a year of such days, holds the tower's log against the fly-overs,
+// opens the next day, with a fly-over at midnight, and asks for the level at thrusts and for the correction at angles. Built and run by examples/run_rust.
 #[link(name = "moatburdock", kind = "static")]
 extern "C" {
     fn moatburdock_open_day(day: *mut u32, rate: u32, first: u32, last: u32, end: i32, daytime: *const u16, classes: usize, night: *const u16,
@@ -7,6 +7,7 @@ extern "C" {
     fn moatburdock_end_for_next_day(day: *const u32) -> i32;
     fn moatburdock_offer(day: *mut u32, start: i32, class: u8, wind: u16, wet: bool, background: u32, samples: *const u16, count: usize,
         exposure: *mut u32, lmax: *mut u32) -> u8;
+    fn moatburdock_hour_energy(day: *const u32, hour: u32, energy: *mut u64);
     fn moatburdock_close_day(day: *const u32, before: u32, after: u32, record: *mut u64, counts: *mut u32, highest_by_class: *mut u32) -> u8;
     fn moatburdock_year_mean(records: *const u64, count: usize, level: *mut u32) -> u8;
     fn moatburdock_pair_movements(movements: *const i32, movement_count: usize, peaks: *const i32, peak_count: usize, tolerance: u32,
@@ -54,6 +55,13 @@ impl Day {
             moatburdock_offer(self.0.as_mut_ptr(), start, class, 30, false, 6000, samples.as_ptr(), samples.len(), &mut exposure, &mut lmax)
         })?;
         Ok((exposure, lmax))
+    }
+
+    /// The energy of a clock hour; a sample of 0 dB has 10^9.
+    fn hour_energy(&self, hour: u32) -> u128 {
+        let mut halves = [0; 2];
+        unsafe { moatburdock_hour_energy(self.0.as_ptr(), hour, halves.as_mut_ptr()) };
+        (halves[1] as u128) << 64 | halves[0] as u128
     }
 
     /// The day's record, and the highest Lmax of each class.
@@ -138,6 +146,10 @@ fn main() -> Result<(), Refused> {
     for start in [432000, 863997] {
         let (exposure, lmax) = day.offer(start, 0, &samples)?;
         println!("a fly-over at {}: LAE {:.2} dB, Lmax {:.2} dB", start, exposure as f64 / 100.0, lmax as f64 / 100.0);
+    }
+    for hour in [12, 23] {
+        let energy = day.hour_energy(hour);
+        println!("hour {}: energy {}, an exposure of {:.2} dB", hour, energy, 10.0 * (energy as f64 / 1e9 / 10.0).log10());
     }
     let (record, highest_by_class) = day.close()?;
     println!("the day: Ldn {:.2} dB by method {}", record as u32 as f64 / 100.0, record >> 32);

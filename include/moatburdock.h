@@ -8,10 +8,10 @@
  * twentieth or a fortieth of a second, by the rate with which a day is opened. A fly-over belongs to the day of its peak, whole. In
  * moatburdock_level_at_thrust and moatburdock_correction_at_angle alone there are doubles: levels and corrections in dB, thrusts in kN, angles in degrees.
  *
- * Every function but moatburdock_end_for_next_day and the two of the reader answers 0, or the number of the refusal. A refused call leaves all that it was
- * lent as it was. Of the arguments only this is required: pointers to as many elements as are stated, all of them initialised, and none that is written
- * through overlaps another argument of the call. Any words make a day; words that are all 0 make a day of no class, on which every offer is refused, by 1, 2
- * or 3, and every closing by 11 or 12.
+ * Every function but moatburdock_end_for_next_day, moatburdock_hour_energy and the two of the reader answers 0, or the number of the refusal. A refused call
+ * leaves all that it was lent as it was. Of the arguments only this is required: pointers to as many elements as are stated, all of them initialised, and none
+ * that is written through overlaps another argument of the call. Any words make a day; words that are all 0 make a day of no class, on which every offer is
+ * refused, by 1, 2 or 3, and every closing by 11 or 12, and of which every hour has the energy 0.
  *
  * What each function computes is an equation that is proved for every argument: crates/c_interface/specs/Calls.antt, over the definitions of
  * crates/ledger, offering, closing, mean, land and pairing; of the reader crates/c_reader/specs/Calls.antt, over those of crates/steps; of the level at a
@@ -110,6 +110,21 @@ uint8_t moatburdock_offer(uint32_t day[MOATBURDOCK_DAY_WORDS], int32_t start, ui
  * accepted. Never refused: what is answered is the end itself. The day is read and not changed. With it no stretch of one day overlaps a stretch of the next,
  * so that a fly-over at midnight is counted in one of them alone. Ask once no more offers to the day are to come. */
 int32_t moatburdock_end_for_next_day(const uint32_t day[MOATBURDOCK_DAY_WORDS]);
+
+/* Gives the energy of a clock hour, 0 to 23: that of the accepted fly-overs whose peak lies in it, by day and by night alike, without the weight of the
+ * night. An hour has 3600 times the rate ticks, counted from midnight, and a fly-over belongs to the hour of its peak, whole. Never refused; an hour above 23
+ * has 0. The day is read and not changed.
+ *
+ * The energy of a fly-over is the sum over the samples of its stretch. That of a sample of c hundredths of a decibel is 10^(9 + c / 1000), of which the first
+ * ten digits are kept and the others are 0: 1000000000 at 0 dB, 100000000000000000 at 80 dB. Two halves are written, the lower one first, so that the energy is
+ * energy[0] + 2^64 * energy[1]:
+ *
+ *     (unsigned __int128)energy[1] << 64 | energy[0]                        exactly, where the compiler has such numbers
+ *     (double)energy[0] + 18446744073709551616.0 * (double)energy[1]        as a double, rounded
+ *
+ * The exposure over the hour in dB is 10 log10(energy / 10^9 / rate), and the mean level of the hour is less by 10 log10(3600); where the energy is 0 there is
+ * neither. On words that no call wrote the energy is taken modulo 2^128. */
+void moatburdock_hour_energy(const uint32_t day[MOATBURDOCK_DAY_WORDS], uint32_t hour, uint64_t energy[2]);
 
 /* Closes a day, with the calibration levels before and after it: gives the day's record (Ldn and its method), in counts the events by day, those by
  * night, and the highest Lmax (or MOATBURDOCK_NOTHING), and the highest Lmax of each class (or MOATBURDOCK_NOTHING; so for every class beyond the book).

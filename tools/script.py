@@ -5,7 +5,7 @@ thrusts.py and angles.py.
     TEXT                            a line without ':' is a heading
 
 In a call 8000*3 stands for 8000 8000 8000, and -6000 for that number in 32 bits, two's complement. The words of interpolate and degrees are f64
-numbers, each by its bits in 16 hexadecimal digits."""
+numbers, each by its bits in 16 hexadecimal digits. An hour is answered by its energy in two halves of 64 bits, the lower one first."""
 import os
 import re
 from collections import namedtuple
@@ -79,6 +79,9 @@ class Replay:
 
     def next(self, call):
         return ['A %d' % self.day.next_end()]
+
+    def hour(self, call):
+        return [self.day.hour_answer(*call.numbers)]
 
     def offer(self, call):
         start, *rest = call.numbers[:5]

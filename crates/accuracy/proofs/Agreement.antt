@@ -2,8 +2,8 @@
 use mathlib.Core.Path.{_≡_, refl, sym}
 use mathlib.Core.Bool.{Bool, true, false, not, _||_}
 use mathlib.Core.List.{List, [], _∷_}
-use Prim.Native.Nat.{ℕ, _*_, _≤_, _<_, zero-le}
-use native.Mathlib.Nat.{le-trans}
+use Prim.Native.Nat.{ℕ, _*_, _^_, _≤_, _<_, zero-le}
+use native.Mathlib.Nat.{lt-of-le-of-lt}
 use native.Mathlib.Omega.{arith}
 use borrow.Author.Needs.{needs}
 use borrow.Author.Tests.{eqb-true, eqb-false, ltb-false, not-false}
@@ -16,28 +16,31 @@ use Rattle.quantity.specs.declared.HighestLevel.the-variants as highests
 use Rattle.quantity.proofs.Refusing.{pass}
 use Rattle.quantity.proofs.Lists.{zero-at}
 use Rattle.power.specs.Power.{e}
-use Rattle.limbs.specs.Value.{value, limbsOf}
+use Rattle.limbs.specs.Value.{base}
 use Rattle.limbs.proofs.Digits.{value-limbsOf-whole}
 use Rattle.event.specs.Window.{highest}
 use Rattle.ledger.specs.Book.{mostClasses, sumOf, padded}
-use Rattle.ledger.specs.Day.{noneByClass, Opening, openRules, openedDay, periodOf}
+use Rattle.ledger.specs.Day.{noneByClass, Opening, openRules, openedDay, periodOf, energyIn}
 use Rattle.offering.specs.Offer.{raised, raisedInClass}
+use Rattle.ledger.specs.declared.Cell.{Cell}
 use Rattle.ledger.specs.declared.Period.{Period}
 use Rattle.ledger.specs.declared.ClassHighest.{ClassHighest}
 use Rattle.ledger.specs.declared.Day.{Day}
 use Rattle.accuracy.specs.Tally.{Held, Tally, bookOf, started}
 use Rattle.accuracy.specs.Laws.{Apart, WithinReach, periodEnergy}
+use Rattle.accuracy.specs.Hours.{PeaksInDay, heldEnergy}
 use Rattle.quantity.proofs.Tests.{neither}
 use Rattle.accuracy.proofs.Held.{lastEnd, last-within}
 use Rattle.accuracy.proofs.Lists.{padded-at, padded-sum, padded-zeros}
-use Rattle.accuracy.proofs.Sums.{heldEnergy, period-part, day-fits}
+use Rattle.accuracy.proofs.Sums.{period-part, day-fits}
+use Rattle.accuracy.proofs.Cells.{cellsOfStretches, cells-sum}
 
--- the day that a tally gives: for each period the flights and the counts in sixteen places, and the energy in four limbs
-abbrev pub periodOfParts : List ℕ → List ℕ → ℕ → Period
-periodOfParts book count S = record { booked = padded mostClasses book; accepted = padded mostClasses count; sum = limbsOf 4 S }
+-- the day that a tally gives: for each period the flights and the counts in sixteen places, and the energies in the cells of their hours
+abbrev pub periodOfParts : List ℕ → List ℕ → List Cell → Period
+periodOfParts book count cells = record { booked = padded mostClasses book; accepted = padded mostClasses count; cells = cells }
 
 abbrev pub periodOfTally : Tally → Bool → Period
-periodOfTally t p = periodOfParts (t .book p) (t .count p) (periodEnergy p (t .stretches))
+periodOfTally t p = periodOfParts (t .book p) (t .count p) (cellsOfStretches (t .settings .rate) p (t .stretches))
 
 abbrev pub highestOfStretches : List Held → HighestLevel
 highestOfStretches [] = highests.Nothing
@@ -69,8 +72,8 @@ abbrev pub OfFirst : ℕ → List Held → Type 0
 OfFirst n [] = Unit
 OfFirst n (h ∷ hs) = (h .class < n) × OfFirst n hs
 
--- the bounds of a tally: 1 to 16 classes, no count passes the book, the stretches are of its classes and lie apart and within reach of the day, and their
--- energy is at most that of a sample of the highest level at each instant up to the last of them
+-- the bounds of a tally: 1 to 16 classes, no count passes the book, the stretches are of its classes, lie apart and within reach of the day and have their
+-- peaks in it, and their energy is at most that of a sample of the highest level at each instant up to the last of them
 pub record Bounded (t : Tally) : Type 0 where
   pub some : 1 ≤ length (t .book true)
   pub most : length (t .book true) ≤ mostClasses
@@ -79,6 +82,7 @@ pub record Bounded (t : Tally) : Type 0 where
   pub counts : (p : Bool) (class : ℕ) → getD (t .count p) class 0 ≤ getD (t .book p) class 0
   pub classes : OfFirst (length (t .book true)) (t .stretches)
   pub within : WithinReach (t .settings .rate) (t .stretches)
+  pub peaks : PeaksInDay (t .settings .rate) (t .stretches)
   pub last : EndsWith (t .end) (t .stretches)
   pub apart : Apart (t .end) (t .stretches)
   pub energy : heldEnergy (t .stretches) ≤ e highestSample * lastEnd (t .stretches)
@@ -91,7 +95,13 @@ pub period-of-tally : (t : Tally) (p : Bool) → periodOf (dayOfTally t) p ≡ p
 period-of-tally t true = refl
 period-of-tally t false = refl
 
--- the day's sixteen places hold the tally's numbers, and its limbs the tally's energy
+-- no sum of the energies of stretches wraps
+pub energy-fits : {t : Tally} → Bounded t → heldEnergy (t .stretches) < base ^ 4
+energy-fits {t} b =
+    let rate = t .settings .rate in
+    day-fits rate (heldEnergy (t .stretches)) (lastEnd (t .stretches)) (b .energy) (last-within rate (t .stretches) (b .within))
+
+-- the day's sixteen places hold the tally's numbers, and its cells the tally's energies
 module _ {t : Tally} (b : Bounded t) (p : Bool) where
   book-fits : length (t .book p) ≤ mostClasses
   book-fits = rw (b .booked p) (b .most)
@@ -111,12 +121,10 @@ module _ {t : Tally} (b : Bounded t) (p : Bool) where
   pub count-sum : sumOf (padded mostClasses (t .count p)) ≡ sumOf (t .count p)
   count-sum = padded-sum mostClasses (t .count p) count-fits
 
-  pub sum-whole : value (limbsOf 4 (periodEnergy p (t .stretches))) ≡ periodEnergy p (t .stretches)
+  pub sum-whole : energyIn (periodOfTally t p) ≡ periodEnergy p (t .stretches)
   sum-whole =
-      let S = periodEnergy p (t .stretches) in
-      let rate = t .settings .rate in
-      value-limbsOf-whole 4 S
-      (day-fits rate S (lastEnd (t .stretches)) (le-trans (period-part p (t .stretches)) (b .energy)) (last-within rate (t .stretches) (b .within)))
+      let hs = t .stretches in
+      rw (cells-sum (value-limbsOf-whole 4) (t .settings .rate) p hs (b .peaks) (energy-fits b)) (value-limbsOf-whole 4 (periodEnergy p hs) (lt-of-le-of-lt (period-part p hs) (energy-fits b)))
 
 -- the fresh day
 book-even : (daytime night : List ℕ) → length daytime ≡ length night → (p : Bool) → length (bookOf daytime night p) ≡ length daytime
@@ -124,7 +132,7 @@ book-even daytime night h true = refl
 book-even daytime night h false = sym h
 
 pub fresh : (o : Opening) → firstOf (openRules o) ≡ 0 → Agrees (started o) (openedDay o)
-unfolding limbsOf periodEnergy
+unfolding heldEnergy
 fresh o h =
     let n = length (o .daytime) in
     let rules = pass (openRules o) (search needs) h in
@@ -142,6 +150,7 @@ fresh o h =
             counts = λ p class. rw (zero-at n class) zero-le;
             classes = tt;
             within = tt;
+            peaks = tt;
             last = tt;
             apart = tt;
             energy = zero-le;

@@ -1,6 +1,6 @@
--- Laws on plain lists: a list in a number of places, a count that is raised, and the highest of a part of a list.
+-- Laws on plain lists: a list in a number of places, a count or a sum that is raised, and the highest of a part of a list.
 use mathlib.Core.Path.{_≡_, refl, ap}
-use mathlib.Core.List.{List, [], _∷_}
+use mathlib.Core.List.{List, [], _∷_, map}
 use Prim.Native.Nat.{ℕ, zero, suc, _+_, _*_, _≤_, _<_, zero-le}
 use native.Mathlib.Nat.{le-refl, le-trans}
 use native.Mathlib.Omega.{arith}
@@ -50,6 +50,19 @@ raised-within counts book k l g h j =
     test (eqb j k)
     (λ t. rw (eqb-true j k t, getD-set-same counts k (getD counts k 0 + 1) 0 l) (omega arith))
     (λ f. rw (getD-set-other counts k j (getD counts k 0 + 1) 0 (eqb-false j k f)) (h j))
+
+-- a list in which one number is raised has a sum that is higher by as much
+pub sum-raised : (xs : List ℕ) (k S : ℕ) → k < length xs → sumOf (set xs k (getD xs k 0 + S)) ≡ sumOf xs + S
+unfolding sumOf
+sum-raised [] k S h = absurd (omega arith)
+sum-raised (x ∷ xs) zero S h = omega arith
+sum-raised (x ∷ xs) (suc k) S h = omega (arith, sum-raised xs k S (omega arith))
+
+-- what is made of each entry, of a list with one entry set
+pub map-set : {A B : Type 0} (f : A → B) (xs : List A) (k : ℕ) (x : A) → map f (set xs k x) ≡ set (map f xs) k (f x)
+map-set f [] k x = refl
+map-set f (y ∷ ys) zero x = refl
+map-set {A} {B} f (y ∷ ys) (suc k) x = ap (λ (l : List B). f y ∷ l) (map-set f ys k x)
 
 -- a part of a list is not higher than the list
 pub highest-take : (n : ℕ) (s : List ℕ) → highest (take n s) ≤ highest s

@@ -33,9 +33,10 @@ use Rattle.closing.specs.Close.{Closing, closeRules, closed}
 use Rattle.mean.specs.Mean.{isTooHigh, isCountWrong, anyTooHigh, powerOf, sumOfPowers, meanOf, meanRules}
 use Rattle.mean.specs.Records.{readings, DayReading}
 use Rattle.accuracy.specs.Tally.{Held, started, tallyCounts, heldSamples}
+use Rattle.accuracy.specs.Hours.{heldEnergy}
 use Rattle.accuracy.specs.Terminal.{dayOf, tallyIn, heldIn, rateIn}
 use Rattle.accuracy.specs.Means.{ClosedDay, Measured, Quiet, rateWeight, meanWeight, meanTicks, recordsOf, daySamples, samplesOf, MeanAccurate, MeanDemanded, MeanClaim, QuietLaw, Demand3}
-use Rattle.accuracy.proofs.Sums.{weighted-held, weighted-append, heldEnergy}
+use Rattle.accuracy.proofs.Sums.{weighted-held, weighted-append, both-periods}
 use Rattle.accuracy.proofs.Agreement.{Agrees}
 use Rattle.accuracy.proofs.Closings.{tallyAnswer, closed-same}
 use Rattle.accuracy.specs.Laws.{WithinReach, periodEnergy}
@@ -226,7 +227,7 @@ low-level d m =
     let energy : heldEnergy (heldIn (d .day)) ≤ G * 10 ^ 14 * last = rw top at (agrees d .bounded .energy) in
     let within : last ≤ 10 ^ 4 * ticks = last-low d in
     let below : m .ldn < highestDayLevel + 1 =
-    lt-of-not-le (λ l. omega (arith, day-reaches d m, ticks-positive rate, rw far at (mul-le-mul-left ticks (e-mono {c = 20000} {d = m .ldn} (omega arith))))) in
+    lt-of-not-le (λ l. omega (arith, both-periods (heldIn (d .day)), day-reaches d m, ticks-positive rate, rw far at (mul-le-mul-left ticks (e-mono {c = 20000} {d = m .ldn} (omega arith))))) in
     omega arith
 
 fits-record : (d : ClosedDay) → Stands d → isTooHigh (d .closing .ldn) ≡ false

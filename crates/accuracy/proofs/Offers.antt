@@ -3,7 +3,7 @@ use mathlib.Core.Path.{_≡_, refl, sym, ap, _∙_}
 use mathlib.Core.Bool.{Bool, true, false}
 use mathlib.Core.List.{List, _∷_}
 use Prim.Native.Nat.{ℕ, zero, suc, _+_, _≤_, _<_}
-use native.Mathlib.Nat.{add-comm, zero-add, le-refl, le-trans, mul-le-mul-left}
+use native.Mathlib.Nat.{le-refl, le-trans, mul-le-mul-left}
 use native.Mathlib.Omega.{arith}
 use borrow.Author.Tests.{leb-false, eqb-false}
 use lib.Dec.{leb, eqb}
@@ -12,9 +12,9 @@ use Rattle.quantity.specs.Limits.{highestSample}
 use Rattle.quantity.specs.Rules.{Rule, firstOf, outcome, follow}
 use Rattle.quantity.specs.declared.HighestLevel.{HighestLevel}
 use Rattle.power.specs.Power.{e}
-use Rattle.limbs.proofs.Digits.{limbsOf-add}
+use Rattle.clock.specs.Clock.{hourOf}
 use Rattle.clock.specs.declared.Settings.{Settings}
-use Rattle.event.specs.Window.{highest}
+use Rattle.event.specs.Window.{highest, peakOf}
 use Rattle.event.specs.Stretch.{stretchFirst, stretchEnd, stretchOf}
 use Rattle.decades.specs.Decades.{energies}
 use Rattle.event.specs.Event.{eventOf}
@@ -24,17 +24,17 @@ use Rattle.event.proofs.Whole.{in-window, peak-inside}
 use Rattle.ledger.specs.Book.{mostClasses}
 use Rattle.ledger.specs.Day.{periodOf, withPeriod}
 use Rattle.admission.specs.Checks.{Offering, dayChecks, usedUp}
-use Rattle.offering.specs.Offer.{offeredBy, offered, withEvent, entered, raised, raisedInClass}
+use Rattle.offering.specs.Offer.{offeredBy, offered, cellsWith, withEvent, entered, raised, raisedInClass}
 use Rattle.ledger.specs.declared.Period.{Period}
 use Rattle.ledger.specs.declared.ClassHighest.{ClassHighest}
 use Rattle.ledger.specs.declared.Day.{Day}
 use Rattle.accuracy.specs.Tally.{offering, Held, Tally, tallied, joined, periodIn, countRaised, sameAs, tallyChecks}
 use Rattle.accuracy.specs.Demand.{OfferDemanded}
-use Rattle.accuracy.specs.Laws.{periodEnergy}
+use Rattle.accuracy.specs.Hours.{heldEnergy}
 use Rattle.accuracy.proofs.Tests.{cond-both, first-limit, reached-equal}
 use Rattle.accuracy.proofs.Held.{last-by, apart-later}
 use Rattle.accuracy.proofs.Lists.{padded-set, raised-within}
-use Rattle.accuracy.proofs.Sums.{held-more}
+use Rattle.accuracy.proofs.Cells.{cellsOfStretches}
 use Rattle.accuracy.proofs.Windows.{highest-stretch, stretch-energy, Admitted, admits}
 use Rattle.accuracy.proofs.Agreement.{periodOfParts, periodOfTally, dayOfTally, Bounded, Agrees, period-of-tally, book-at, count-at}
 
@@ -71,22 +71,14 @@ module _ {t : Tally} (b : Bounded t) (class : ℕ) (booked : class < length (t .
   in-counts p = rw (b .counted p) booked
 
   -- the day with the event is the day of the tally with the stretch
-  with-event : (p : Bool) (S : ℕ)
-      → withEvent (periodOfTally t p) class S
-      ≡ periodOfParts (t .book p) (set (t .count p) class (getD (t .count p) class 0 + 1)) (S + periodEnergy p (t .stretches))
-  with-event p S =
-      rw (
-        count-at b p class,
-        padded-set mostClasses (t .count p) class (getD (t .count p) class 0 + 1) (in-counts p),
-        limbsOf-add 4 (periodEnergy p (t .stretches)) S,
-        add-comm (periodEnergy p (t .stretches)) S,
-      )
+  with-event : (p : Bool) (hour S : ℕ)
+      → withEvent (periodOfTally t p) class hour S
+      ≡ periodOfParts (t .book p) (set (t .count p) class (getD (t .count p) class 0 + 1)) (cellsWith (cellsOfStretches (t .settings .rate) p (t .stretches)) hour S)
+  with-event p hour S =
+      rw (count-at b p class, padded-set mostClasses (t .count p) class (getD (t .count p) class 0 + 1) (in-counts p))
 
-  without-event : (p : Bool) → periodOfTally t p ≡ periodOfParts (t .book p) (t .count p) (0 + periodEnergy p (t .stretches))
-  without-event p = rw (zero-add (periodEnergy p (t .stretches)))
-
-  event-same : (p : Bool) (from to : ℕ) (levels : List ℕ) {top : ℕ} → top ≡ highest levels
-      → let next = withPeriod (dayOfTally t) p (withEvent (periodOf (dayOfTally t) p) class (energies levels)) in
+  event-same : (p : Bool) (peak from to : ℕ) (levels : List ℕ) {top : ℕ} → top ≡ highest levels
+      → let next = withPeriod (dayOfTally t) p (withEvent (periodOf (dayOfTally t) p) class (hourOf (t .settings .rate) peak) (energies levels)) in
       _≡_ {A = Day}
       (record {
         settings = t .settings;
@@ -97,10 +89,9 @@ module _ {t : Tally} (b : Bounded t) (class : ℕ) (booked : class < length (t .
         highest = raised (next .highest) (record { 0 = top });
         «highest_by_class» = raisedInClass (next .«highest_by_class») class (record { 0 = top });
       })
-      (dayOfTally (withStretch t (record { class = class; daytime = p; from = from; to = to; levels = levels })))
-  unfolding periodEnergy
-  event-same true from to levels e = day-same (with-event true (energies levels)) (without-event false) (rw e) (rw e)
-  event-same false from to levels e = day-same (without-event true) (with-event false (energies levels)) (rw e) (rw e)
+      (dayOfTally (withStretch t (record { class = class; daytime = p; peak = peak; from = from; to = to; levels = levels })))
+  event-same true peak from to levels e = day-same (with-event true (hourOf (t .settings .rate) peak) (energies levels)) refl (rw e) (rw e)
+  event-same false peak from to levels e = day-same refl (with-event false (hourOf (t .settings .rate) peak) (energies levels)) (rw e) (rw e)
 
   -- a count is raised, and stays within the book where it has room there
   counted-length : (p q : Bool) → length (countRaised (t .count) p class q) ≡ length (t .book true)
@@ -130,10 +121,11 @@ module _ {t : Tally} (b : Bounded t) (o : Offering) (free : firstOf (tallyChecks
   joined-same =
       let c = o .recording in
       let s = o .samples in
-      event-same b (c .class) in-book (periodIn (t .settings) o) (c .start .0 + stretchFirst s) (c .start .0 + stretchEnd s) (stretchOf s)
+      event-same b (c .class) in-book (periodIn (t .settings) o) (c .start .0 + peakOf s) (c .start .0 + stretchFirst s) (c .start .0 + stretchEnd s) (stretchOf s)
       (sym (highest-stretch s (admission .some)))
 
-  joined-bounded : Bounded (joined t o)
+  pub joined-bounded : Bounded (joined t o)
+  unfolding heldEnergy
   joined-bounded =
       let class = o .recording .class in
       let s = o .samples in
@@ -151,10 +143,10 @@ module _ {t : Tally} (b : Bounded t) (o : Offering) (free : firstOf (tallyChecks
         counts = counted-within b class in-book p room;
         classes = (in-book, b .classes);
         within = ((omega (arith, a .inside .begins), omega (arith, in-window s, a .inside .ends)), b .within);
+        peaks = ((a .inside .peakFrom, a .inside .peakBefore), b .peaks);
         last = refl;
         apart = (le-refl _, omega arith, apart-later (t .stretches) (a .after) (b .apart));
         energy =
-            rw held-more
             (omega (arith, b .energy, mul-le-mul-left (e highestSample) (le-trans (last-by (t .stretches) (b .apart)) (a .after)), stretch-energy highestSample s (a .level)));
       }
 

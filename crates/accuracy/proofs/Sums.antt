@@ -18,6 +18,7 @@ use Rattle.decades.specs.Decades.{energies}
 use Rattle.exposure.proofs.Accuracy.{weighted-energies}
 use Rattle.accuracy.specs.Tally.{Held, sameAs, heldSamples}
 use Rattle.accuracy.specs.Laws.{periodEnergy}
+use Rattle.accuracy.specs.Hours.{heldEnergy}
 
 -- an energy in its period, with the weight of the period
 by-period : (w : Bool → ℕ) (p : Bool) (S d n : ℕ)
@@ -38,17 +39,16 @@ weighted-held w (h ∷ hs) =
     weighted-append e (weigh (w (h .daytime)) (h .levels)) (heldSamples w hs)
     ∙ (rw (weighted-energies (w (h .daytime)) (h .levels), weighted-held w hs) (by-period w (h .daytime) (energies (h .levels)) (periodEnergy true hs) (periodEnergy false hs)))
 
--- the energy of both periods together
-abbrev pub heldEnergy : List Held → ℕ
-heldEnergy hs = periodEnergy true hs + periodEnergy false hs
-
-pub held-more : (h : Held) (hs : List Held) → heldEnergy (h ∷ hs) ≡ energies (h .levels) + heldEnergy hs
-unfolding periodEnergy
-held-more h hs = omega (arith, by-period (λ p. 1) (h .daytime) (energies (h .levels)) (periodEnergy true hs) (periodEnergy false hs))
+-- the energy of all stretches is that of both periods together
+pub both-periods : (hs : List Held) → periodEnergy true hs + periodEnergy false hs ≡ heldEnergy hs
+unfolding periodEnergy heldEnergy
+both-periods [] = omega arith
+both-periods (h ∷ hs) =
+    omega (arith, by-period (λ p. 1) (h .daytime) (energies (h .levels)) (periodEnergy true hs) (periodEnergy false hs), both-periods hs)
 
 pub period-part : (p : Bool) (hs : List Held) → periodEnergy p hs ≤ heldEnergy hs
-period-part true hs = omega arith
-period-part false hs = omega arith
+period-part true hs = omega (arith, both-periods hs)
+period-part false hs = omega (arith, both-periods hs)
 
 -- samples at the highest level up to the latest end of a window have less energy than four limbs hold
 pub day-fits : (rate : Rate) (S end : ℕ) → S ≤ e highestSample * end → end ≤ latestEnd rate → S < base ^ 4

@@ -1,5 +1,5 @@
--- Demand 3 as a reader finds it: the plain tally, the terminal over lists of calls, the laws beside the claims, and the claims; days in a row; and what stayed
--- as it was.
+-- Demand 3 as a reader finds it: the plain tally, the terminal over lists of calls, the laws beside the claims, and the claims; days in a row; the energies of
+-- the clock hours; and what stayed as it was.
 pub mod Tally
 pub mod Terminal
 pub mod Laws
@@ -7,4 +7,5 @@ pub mod Demand
 pub mod Means
 pub mod Before
 pub mod NextDay
+pub mod Hours
 pub mod Midnight

@@ -48,7 +48,15 @@ InRow d (n ∷ ns) = (n .opening .end ≡ endForNextDay (dayOf d) .0) × (rateIn
 
 -- a stretch so many ticks later
 abbrev pub later : ℕ → Held → Held
-later ticks h = record { class = h .class; daytime = h .daytime; from = ticks + h .from; to = ticks + h .to; levels = h .levels }
+later ticks h =
+    record {
+      class = h .class;
+      daytime = h .daytime;
+      peak = ticks + h .peak;
+      from = ticks + h .from;
+      to = ticks + h .to;
+      levels = h .levels;
+    }
 
 -- the stretches of all the days, the latest first, as instants of the first day
 abbrev pub heldInRow : CalledDay → List CalledDay → List Held

@@ -20,10 +20,11 @@ pub data Call : Type 0 where
   offering : Offering → Call
   closing : (before after : ℕ) → Call
 
--- a stretch of the list, with its class and its period: its samples, and the instant of the first and the instant after the last
+-- a stretch of the list, with its class, its period and the instant of its peak: its samples, and the instant of the first and the instant after the last
 pub record Held : Type 0 where
   pub class : ℕ
   pub daytime : Bool
+  pub peak : ℕ
   pub from : ℕ
   pub to : ℕ
   pub levels : List ℕ
@@ -89,6 +90,7 @@ joined t o =
           record {
             class = r .class;
             daytime = p;
+            peak = r .start .0 + eventOf (o .samples) .peak;
             from = r .start .0 + stretchFirst (o .samples);
             to = r .start .0 + stretchEnd (o .samples);
             levels = stretchOf (o .samples);

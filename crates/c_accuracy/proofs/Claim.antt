@@ -43,7 +43,7 @@ use Rattle.c_interface.proofs.Written.{told-level, record-law, told-highest}
 use Rattle.c_accuracy.specs.Calls.{CCall, offer, close, callOf, lentTo, wordsOf}
 use Rattle.c_accuracy.specs.Demand.{offerSeen, closeSeen, classesSeen, meanSeen, CDemanded, CClaim, Wrote, AllWrote, CMeanClaim, CDemand3}
 use Rattle.c_accuracy.proofs.Told.{told-exposure, told-weighted, sum-most, told-mean}
-use Rattle.c_accuracy.proofs.Held.{Low, AllLow, Reached, whole}
+use Rattle.c_accuracy.proofs.Held.{Low, AllLow, Reached, energy-below, whole}
 
 -- an outcome that a caller reads as it is: its refusals have numbers, and its values are told
 abbrev Plain : {A : Type 0} → (A → Type 0) → Outcome A → Type 0
@@ -104,8 +104,8 @@ closing-told d r before after h =
     let weight : sumOf (d .daytime .booked) + 10 * sumOf (d .night .booked) ≤ 10 ^ 8 = omega (arith, r .fits .daytime .booked, r .fits .night .booked) in
     let f = formulaBy (d .settings .rate) (methodBy c) (c .totals) in
     test (methodOneHolds (c .totals))
-    (λ t. told-weighted (f .offset) (f .divisor) divides (rw t (lit≤ tt)) (rw t (lit≤ tt)) (r .energy true) (r .energy false))
-    (λ t. told-weighted (f .offset) (f .divisor) divides (rw t weight) (rw t weight) (r .energy true) (r .energy false))
+    (λ t. told-weighted (f .offset) (f .divisor) divides (rw t (lit≤ tt)) (rw t (lit≤ tt)) (energy-below (d .daytime)) (energy-below (d .night)))
+    (λ t. told-weighted (f .offset) (f .divisor) divides (rw t weight) (rw t weight) (energy-below (d .daytime)) (energy-below (d .night)))
 
 plain-closing : (d : Day) → Reached d → (before after : ℕ) → PlainClosing (closed d before after)
 plain-closing d r before after = go (firstOf (closeRules before after (countsOf d))) refl

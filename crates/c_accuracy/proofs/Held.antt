@@ -1,4 +1,4 @@
--- The words hold the day of the list of calls, and give the end that it gives.
+-- The words hold the day of the list of calls, and give the end and the energies of the hours that it gives.
 use mathlib.Core.Path.{_≡_, refl, ap, _∙_}
 use mathlib.Core.Bool.{Bool, true, false}
 use mathlib.Core.List.{List, [], _∷_, map}
@@ -21,23 +21,25 @@ use Rattle.event.specs.Event.{eventOf}
 use Rattle.exposure.specs.Exposure.{energyOf}
 use Rattle.event.specs.Window.{highest}
 use Rattle.ledger.specs.Book.{mostClasses}
-use Rattle.ledger.specs.Day.{Answered, noneInClass, noDay, Opening, openRules, openedDay, periodOf, withPeriod, energyIn, endForNextDay}
+use Rattle.ledger.specs.Day.{Answered, noneInClass, noDay, Opening, openRules, openedDay, periodOf, withPeriod, energyIn, hourEnergy, endForNextDay}
 use Rattle.admission.specs.Checks.{Offering, dayChecks, inDaytime}
-use Rattle.offering.specs.Offer.{withEvent, raised, raisedInClass, admitted, offeredBy, offered}
+use Rattle.offering.specs.Offer.{withEvent, inHour, raised, raisedInClass, admitted, offeredBy, offered}
 use Rattle.ledger.specs.declared.ClassHighest.{ClassHighest}
 use Rattle.ledger.specs.declared.Day.{Day}
 use Rattle.ledger.specs.declared.Period.{Period}
 use Rattle.accuracy.specs.Terminal.{dayAfter, dayAfterCalls}
 use Rattle.accuracy.proofs.Windows.{admits}
+use Rattle.accuracy.proofs.Hours.{hour-law}
 use Rattle.day_words.specs.Words.{dayWords, dayFrom, DayFits}
 use Rattle.day_words.proofs.Inverse.{inverse}
 use Rattle.day_words.proofs.Reached.{opened-fits, offered-fits}
 use Rattle.c_interface.specs.Calls.{openLeaves}
 use Rattle.c_interface.specs.Numbers.{levelNumber}
+use Rattle.c_interface.proofs.Written.{energy-told}
 use Rattle.c_accuracy.specs.Calls.{CCall, offer, close, callOf, lentTo, wordsAfter, wordsAfterCalls, wordsOf}
-use Rattle.c_accuracy.specs.Demand.{HeldLaw, EndLaw}
+use Rattle.c_accuracy.specs.Demand.{HeldLaw, EndLaw, CHourLaw}
 
--- what is known of a day that calls reach: it fits into its words, its sums into their limbs, and no Lmax is above the limit
+-- what is known of a day that calls reach: it fits into its words, and no Lmax is above the limit
 abbrev pub Low : HighestLevel → Type 0
 Low (highests.At l) = l .0 ≤ highestSample
 Low highests.Nothing = Unit
@@ -48,7 +50,6 @@ AllLow (c ∷ cs) = Low (c .level) × AllLow cs
 
 pub record Reached (d : Day) : Type 0 where
   pub fits : DayFits d
-  pub energy : (p : Bool) → energyIn (periodOf d p) < base ^ 4
   pub highest : Low (d .highest)
   pub byClass : AllLow (d .«highest_by_class»)
 
@@ -73,12 +74,7 @@ none-low zero = tt
 none-low (suc n) = (tt, none-low n)
 
 fresh-reached : (o : Opening) → DayFits (openedDay o) → Reached (openedDay o)
-unfolding value
-fresh-reached o f = record { fits = f; energy = none; highest = tt; byClass = none-low mostClasses }
-  where
-    none : (p : Bool) → energyIn (periodOf (openedDay o) p) < base ^ 4
-    none true = lit< tt
-    none false = lit< tt
+fresh-reached o f = record { fits = f; highest = tt; byClass = none-low mostClasses }
 
 -- so is the day after an offer
 raised-low : (h : HighestLevel) (l : Level) → Low h → l .0 ≤ highestSample → Low (raised h l)
@@ -89,13 +85,6 @@ raised-all-low : (cs : List ClassHighest) (k : ℕ) (l : Level) → AllLow cs �
 raised-all-low [] k l p q = p
 raised-all-low (c ∷ cs) zero l p q = (raised-low (c .level) l (p .0) q, p .1)
 raised-all-low (c ∷ cs) (suc k) l p q = (p .0, raised-all-low cs k l (p .1) q)
-
-with-energy : (d : Day) (b : Bool) (class S : ℕ) → ((p : Bool) → energyIn (periodOf d p) < base ^ 4)
-    → (p : Bool) → energyIn (periodOf (withPeriod d b (withEvent (periodOf d b) class S)) p) < base ^ 4
-with-energy d true class S h true = rw value-limbsOf (mod-lt _ (lit< tt))
-with-energy d true class S h false = h false
-with-energy d false class S h true = h true
-with-energy d false class S h false = rw value-limbsOf (mod-lt _ (lit< tt))
 
 same-highest : (d : Day) (b : Bool) (p : Period) → withPeriod d b p .highest ≡ d .highest
 same-highest d true p = refl
@@ -112,7 +101,7 @@ offered-reached d o r = go (firstOf (dayChecks d o)) refl (offered-fits d o (r .
     by-day = inDaytime (d .settings) (o .recording) (eventOf (o .samples))
 
     after : Period
-    after = withEvent (periodOf d by-day) (o .recording .class) (energyOf (o .samples))
+    after = withEvent (periodOf d by-day) (o .recording .class) (inHour d (o .recording) (eventOf (o .samples))) (energyOf (o .samples))
 
     entered-low : highest (o .samples) ≤ highestSample → Low (admitted d o .day .highest)
     entered-low h = raised-low (withPeriod d by-day after .highest) (eventOf (o .samples) .lmax) (rw (same-highest d by-day after) (r .highest)) h
@@ -123,15 +112,10 @@ offered-reached d o r = go (firstOf (dayChecks d o)) refl (offered-fits d o (r .
         (rw (same-by-class d by-day after) (r .byClass))
         h
 
-    entered : (p : Bool) → energyIn (periodOf (admitted d o .day) p) < base ^ 4
-    entered true = with-energy d (inDaytime (d .settings) (o .recording) (eventOf (o .samples))) (o .recording .class) (energyOf (o .samples)) (r .energy) true
-    entered false = with-energy d (inDaytime (d .settings) (o .recording) (eventOf (o .samples))) (o .recording .class) (energyOf (o .samples)) (r .energy) false
-
     go : (n : ℕ) → firstOf (dayChecks d o) ≡ n → DayFits (offeredBy n d o .day) → Reached (offeredBy n d o .day)
     go zero h f =
         record {
           fits = f;
-          energy = entered;
           highest = entered-low (admits (d .settings .rate) o _ _ _ h .level);
           byClass = classes-low (admits (d .settings .rate) o _ _ _ h .level);
         }
@@ -176,7 +160,19 @@ whole day o e calls =
 pub held : HeldLaw
 held day o e calls = whole day o e calls .1
 
+-- the energy of a period is kept in four limbs, on any day
+pub energy-below : (p : Period) → energyIn p < base ^ 4
+energy-below p = rw value-limbsOf (mod-lt _ (lit< tt))
+
 -- the end to open the next day with
 pub end-law : EndLaw
 end-law day o e calls =
     ticks-back (endForNextDay (dayFrom (wordsOf day o calls)) .0) ∙ ap (λ (d : Day). endForNextDay d .0) (held day o e calls)
+
+-- the energy of an hour
+pub c-hour-law : CHourLaw
+c-hour-law day o e calls hour =
+    let w = whole day o e calls in
+    energy-told (value (hourEnergy (dayFrom (wordsOf day o calls)) hour))
+    ∙ ap (λ (d : Day). value (hourEnergy d hour)) (w .1)
+    ∙ hour-law o (w .0) (map callOf calls) hour

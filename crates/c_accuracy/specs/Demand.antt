@@ -15,10 +15,11 @@ use Rattle.closing.specs.Close.{Closing}
 use Rattle.accuracy.specs.Tally.{Tally, started, tallyOf}
 use Rattle.accuracy.specs.Terminal.{dayAfterCalls}
 use Rattle.accuracy.specs.Demand.{OfferDemanded, CloseDemanded}
+use Rattle.accuracy.specs.Hours.{ofHour, heldEnergy}
 use Rattle.accuracy.specs.Means.{ClosedDay, Measured, MeanDemanded}
 use Rattle.day_words.specs.Words.{dayFrom}
-use Rattle.c_interface.specs.Numbers.{levelFrom, highestFrom, classLevelsFrom, recordLevel, recordMethod}
-use Rattle.c_interface.specs.Calls.{OfferLent, CloseLent, openLeaves, offerLeaves, endGiven, closeLeaves, weekLeaves, yearLeaves}
+use Rattle.c_interface.specs.Numbers.{levelFrom, highestFrom, classLevelsFrom, energyFrom, recordLevel, recordMethod}
+use Rattle.c_interface.specs.Calls.{OfferLent, CloseLent, openLeaves, offerLeaves, endGiven, energyGiven, closeLeaves, weekLeaves, yearLeaves}
 use Rattle.c_accuracy.specs.Calls.{CCall, offer, close, callOf, lentTo, wordsOf}
 
 -- the outcome that a caller reads: the number of the refusal, or what the numbers hold that were lent
@@ -53,6 +54,14 @@ abbrev pub EndLaw : Type 0
 EndLaw =
     (day : List ℕ) (o : Opening) → openLeaves day o .answer ≡ 0 → (calls : List CCall)
     → ticksOf (endGiven (wordsOf day o calls)) ≡ endForNextDay (dayAfterCalls (openedDay o) (map callOf calls)) .0
+
+-- document 02, W-208: the energy of an hour, as C gives it in two halves, is the sum of e over the stretches of the tally whose peak lies in that hour, for every
+-- number of an hour
+abbrev pub CHourLaw : Type 0
+CHourLaw =
+    (day : List ℕ) (o : Opening) → openLeaves day o .answer ≡ 0 → (calls : List CCall) (hour : ℕ)
+    → let t = tallyOf (started o) (map callOf calls) in
+    energyFrom (energyGiven (wordsOf day o calls) hour) ≡ heldEnergy (ofHour (t .settings .rate) hour (t .stretches))
 
 -- and for every K and one call more, what the caller reads stands in the demanded relation to the plain tally of the list
 abbrev pub CDemanded : ℕ → Tally → List ℕ → CCall → Type 0

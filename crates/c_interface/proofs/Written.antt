@@ -1,11 +1,14 @@
--- Reading a record that was written: its level and its method.
-use mathlib.Core.Path.{_≡_, refl, ap, _∙_}
+-- Reading what was written: the level and the method of a record, the highest Lmax, and the energy of an hour.
+use mathlib.Core.Path.{_≡_, refl, ap, ap₂, _∙_}
+use mathlib.Core.List.{[], _∷_}
 use mathlib.Core.Option.{Option, some, none}
 use Prim.Native.Nat.{ℕ, _+_, _*_, _/_, _%_, _<_}
 use native.Mathlib.Omega.{arith}
+use lib.ListN.{getD}
 use borrow.Author.Tests.{ne-eqb}
 use Rattle.quantity.specs.Answers.{Reading, level, below-scale}
-use Rattle.c_interface.specs.Numbers.{levelFrom, levelNumber, highestFrom, highestNumber, upper, Told, ToldHighest, RecordLaw}
+use Rattle.limbs.specs.Value.{value, limbsOf}
+use Rattle.c_interface.specs.Numbers.{levelFrom, levelNumber, highestFrom, highestNumber, upper, half, energyNumbers, energyFrom, Told, ToldHighest, RecordLaw}
 
 -- a level that is told is read from its number
 pub told-level : (r : Reading) → Told r → levelFrom (levelNumber r) ≡ r
@@ -27,3 +30,20 @@ record-law r method h =
 pub told-highest : (h : Option ℕ) → ToldHighest h → highestFrom (highestNumber h) ≡ h
 told-highest (some c) h = rw (ne-eqb c 4294967295 (λ e. omega arith))
 told-highest none h = refl
+
+-- so is the energy of an hour
+pub energy-told : (S : ℕ) → energyFrom (energyNumbers S) ≡ S
+energy-told S = omega arith
+
+-- two limbs make one of its numbers
+both-halves : (low high : ℕ) → low < half → (low ≡ (low + half * high) % half) × (high ≡ (low + half * high) / half)
+both-halves low high h = (omega arith, omega arith)
+
+pub energy-by-limbs : (n : ℕ) → (let l = limbsOf 4 n in (getD l 0 0 + upper * getD l 1 0) ∷ (getD l 2 0 + upper * getD l 3 0) ∷ []) ≡ energyNumbers (value (limbsOf 4 n))
+unfolding value limbsOf
+energy-by-limbs n =
+    let low : ℕ = n % upper + upper * (n / upper % upper) in
+    let high : ℕ = n / upper / upper % upper + upper * (n / upper / upper / upper % upper) in
+    let whole : low + half * high ≡ value (limbsOf 4 n) = omega arith in
+    let both = both-halves low high (omega arith) in
+    ap₂ (λ (x y : ℕ). x ∷ y ∷ []) (both .0) (both .1) ∙ ap energyNumbers whole

@@ -8,7 +8,8 @@ use lib.ListN.{length, getD, set}
 use Rattle.quantity.specs.Rules.{Outcome, outcome, Rule, firstOf}
 use Rattle.quantity.specs.Lent.{Left, leaves}
 use Rattle.quantity.specs.Instants.{instantOf, afterMidnight}
-use Rattle.ledger.specs.Day.{Opening, opened, endForNextDay}
+use Rattle.limbs.specs.Value.{value}
+use Rattle.ledger.specs.Day.{Opening, opened, endForNextDay, hourEnergy}
 use Rattle.admission.specs.Checks.{Offering}
 use Rattle.offering.specs.Offer.{offered}
 use Rattle.closing.specs.Close.{Closed, dayClosed}
@@ -19,7 +20,7 @@ use Rattle.pairing.specs.Answers.{Answered}
 use Rattle.land.specs.Classes.{classOf}
 use Rattle.land.specs.Verdict.{landClassOf, verdictOf}
 use Rattle.day_words.specs.Words.{dayWords, dayFrom}
-use Rattle.c_interface.specs.Numbers.{levelNumber, levelFrom, highestNumber, highestFrom, classNumbers, recordNumber, recordLevel, recordLevels, findingNumber, marginNumber}
+use Rattle.c_interface.specs.Numbers.{levelNumber, levelFrom, highestNumber, highestFrom, classNumbers, energyNumbers, recordNumber, recordLevel, recordLevels, findingNumber, marginNumber}
 
 -- opening: the words of the fresh day
 abbrev pub openLeaves : List ℕ → Opening → Left (List ℕ)
@@ -48,6 +49,10 @@ offerLeaves lent o =
 -- the end to open the next day with, in ticks after the next midnight
 abbrev pub endGiven : List ℕ → ℤ
 endGiven day = afterMidnight (endForNextDay (dayFrom day))
+
+-- W-208: the energy of a clock hour in two halves of 64 bits, the lower one first
+abbrev pub energyGiven : List ℕ → ℕ → List ℕ
+energyGiven day hour = energyNumbers (value (hourEnergy (dayFrom day) hour))
 
 -- a closing: the day's record; Nd', Nn' and the highest Lmax; and the highest Lmax of each class
 pub record CloseLent : Type 0 where

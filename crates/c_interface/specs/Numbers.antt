@@ -6,6 +6,7 @@ use mathlib.Core.Path.{_≡_}
 use Prim.Native.Nat.{ℕ, _+_, _*_, _/_, _%_, _<_}
 use lib.Dec.{eqb}
 use lib.IntN.{ℤ, pos}
+use lib.ListN.{getD}
 use Rattle.quantity.specs.Answers.{Reading, level, below-scale}
 use Rattle.land.specs.Verdict.{Finding, over, no-limit}
 
@@ -34,10 +35,21 @@ classNumbers = map highestNumber
 abbrev pub classLevelsFrom : List ℕ → List (Option ℕ)
 classLevelsFrom = map highestFrom
 
--- a day's answer in one number of 64 bits: its level in the lower half, its method in the upper one
+-- where the upper 32 bits of a number of 64 begin
 abbrev pub upper : ℕ
 upper = 4294967296
 
+-- W-208: an energy below 2 ^ 128 in two numbers of 64 bits, the lower half first
+abbrev pub half : ℕ
+half = upper * upper
+
+abbrev pub energyNumbers : ℕ → List ℕ
+energyNumbers S = S % half ∷ S / half ∷ []
+
+abbrev pub energyFrom : List ℕ → ℕ
+energyFrom numbers = getD numbers 0 0 + half * getD numbers 1 0
+
+-- a day's answer in one number of 64 bits: its level in the lower half, its method in the upper one
 abbrev pub recordNumber : Reading → ℕ → ℕ
 recordNumber ldn method = levelNumber ldn + upper * method
 

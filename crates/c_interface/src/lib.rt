@@ -1,7 +1,7 @@
 // The entry points for C and Rust: on numbers, and with the day as 320 words that the caller lends. Each answers 0 or the number of a refusal, and a
 // refused call leaves all that it was lent as it was. Levels are hundredths of a decibel; NOTHING stands for 'below scale' and for no Lmax.
 ghost use mathlib.Core.Path.{_≡_};
-ghost use Prim.Native.Nat.{_<_, _≤_};
+ghost use Prim.Native.Nat.{_+_, _*_, _<_, _≤_};
 ghost use Rattle.quantity.specs.Answers.{reading, methodNumber, highestReading};
 ghost use Rattle.quantity.specs.Instants.{ticksOf};
 ghost use Rattle.quantity.specs.Lent.{leaves};
@@ -15,6 +15,7 @@ ghost use Rattle.c_interface.specs.Numbers.{
   highestFrom,
   highestNumber,
   classNumbers,
+  upper,
   recordNumber,
   recordLevel,
   recordLevels,
@@ -26,6 +27,7 @@ ghost use Rattle.c_interface.specs.Calls.{
   offeringAs,
   offerLeaves,
   endGiven,
+  energyGiven,
   closeLeaves,
   weekLeaves,
   yearLeaves,
@@ -60,7 +62,7 @@ const NOTHING: u32 = 4294967295;
 // What stands for no margin.
 const NO_MARGIN: i32 = 2147483647;
 
-// Where the method of a record begins.
+// The upper 32 bits of a number of 64 begin here: the method of a record, and every second limb of an energy.
 const UPPER: u64 = 4294967296;
 
 fn level_from(n: u32) -> Reading
@@ -211,6 +213,23 @@ pub extern "C" fn moatburdock_end_for_next_day(day: &[u32; 320]) -> i32
     ensures { λ r. ⌜ r ≡ endGiven (now (day .entry)) ⌝ }
 {
     quantity::after_midnight(ledger::end_for_next_day(day_words::decode(day)))
+}
+
+// Two limbs as one number.
+fn half_of(low: u32, high: u32) -> u64
+    ensures { λ r. ⌜ r ≡ low + upper * high ⌝ }
+{
+    low as u64 + UPPER * (high as u64)
+}
+
+// Gives the energy of the events whose peak lies in a clock hour, of both periods and without weights, in two halves, the lower one first. An hour above 23
+// has 0.
+#[no_mangle]
+pub extern "C" fn moatburdock_hour_energy(day: &[u32; 320], hour: u32, energy: &mut [u64; 2])
+    ensures { λ _. ⌜ now (energy .exit) ≡ energyGiven (now (day .entry)) hour ⌝ }
+{
+    let sum = ledger::hour_energy(day_words::decode(day), hour);
+    *energy = [half_of(sum[0], sum[1]), half_of(sum[2], sum[3])];
 }
 
 // Closes a day, with the calibration levels before and after. Gives the day's record, and Nd', Nn' and the highest Lmax, and the highest Lmax of each class.

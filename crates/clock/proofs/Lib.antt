@@ -1,3 +1,4 @@
--- The laws of the rates, and of rule 2.
+-- The laws of the rates, of rule 2, and of the clock hours.
 pub mod Rates
 pub mod Inside
+pub mod Hours

@@ -47,17 +47,20 @@ abbrev pub closeOutcome : CloseAnswer → Outcome Closing
 closeOutcome (cases.Closed c) = given (closingReading c)
 closeOutcome (cases.Refused r) = refused (refusalNumber r)
 
--- a day that no rule refuses
-abbrev pub closingOf : Day → Closing
-closingOf day =
+-- a day that no rule refuses, by its two energies
+abbrev pub closingBy : Day → (Sd Sn : ℕ) → Closing
+closingBy day Sd Sn =
     let c = countsOf day in
     record {
-      ldn = levelBy (formulaBy (day .settings .rate) (methodBy c) (c .totals)) (energyIn (day .daytime)) (energyIn (day .night));
+      ldn = levelBy (formulaBy (day .settings .rate) (methodBy c) (c .totals)) Sd Sn;
       method = methodBy c;
       dayEvents = c .totals .daytime .events;
       nightEvents = c .totals .night .events;
       highest = highestReading (day .highest);
     }
+
+abbrev pub closingOf : Day → Closing
+closingOf day = closingBy day (energyIn (day .daytime)) (energyIn (day .night))
 
 -- closing reads the day and changes nothing
 abbrev pub closed : Day → (before after : ℕ) → Outcome Closing

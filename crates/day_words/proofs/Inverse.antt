@@ -6,14 +6,18 @@ use native.Mathlib.Nat.{add-zero, mod-eq-of-lt}
 use native.Mathlib.Omega.{arith}
 use lib.ListN.{length, drop, getD, replicate, length-append}
 use lib.Seq.{drop-drop, take-at, drop-at, getD-drop}
+use Rattle.quantity.specs.Lists.{Each}
 use Rattle.quantity.specs.declared.HighestLevel.{HighestLevel}
 use Rattle.quantity.specs.declared.HighestLevel.the-variants as highests
 use Rattle.clock.specs.declared.Rate.{Rate}
 use Rattle.clock.specs.declared.Rate.the-variants.{Ten, Twenty, Forty}
+use Rattle.ledger.specs.declared.Cell.{Cell}
 use Rattle.ledger.specs.declared.Period.{Period}
 use Rattle.ledger.specs.declared.ClassHighest.{ClassHighest}
 use Rattle.ledger.specs.declared.Day.{Day}
 use Rattle.day_words.specs.Words.{
+  wordsOfEach,
+  cellWords,
   periodWords,
   highestWords,
   restWords,
@@ -23,12 +27,17 @@ use Rattle.day_words.specs.Words.{
   dayWords,
   wordsAt,
   narrowed,
+  readEach,
+  cellFrom,
+  cellsFrom,
   periodFrom,
   highestMarked,
+  classFrom,
   classesFrom,
   rateFrom,
   dayFrom,
   Narrow,
+  FourLimbs,
   PeriodFits,
   DayFits,
   InverseLaw,
@@ -50,31 +59,68 @@ narrowed-same : (xs : List ℕ) → Narrow xs → narrowed xs ≡ xs
 narrowed-same [] h = refl
 narrowed-same (x ∷ xs) h = ap₂ _∷_ (mod-eq-of-lt (h 0)) (narrowed-same xs (λ i. h (suc i)))
 
--- a period is read from where it stands, and what is behind it stands 36 words on
+-- a list whose entries have the same number of words
+abbrev Wide : {A : Type 0} → (A → List ℕ) → ℕ → List A → Type 0
+Wide f width = Each (λ x. length (f x) ≡ width)
+
+wide : {A : Type 0} (f : A → List ℕ) {width : ℕ} → ((x : A) → length (f x) ≡ width) → (xs : List A) → Wide f width xs
+wide f h [] = tt
+wide f h (x ∷ xs) = (h x, wide f h xs)
+
+length-words-of-each : {A : Type 0} (f : A → List ℕ) (width : ℕ) (xs : List A) → Wide f width xs → length (wordsOfEach f xs) ≡ width * length xs
+length-words-of-each f width [] e = omega arith
+length-words-of-each f width (x ∷ xs) e = rw (length-append, length-words-of-each f width xs (e .1), e .0) (omega arith)
+
+-- such a list is read from where it stands, if each entry is
+module _ {A : Type 0} (words : List ℕ) (f : A → List ℕ) (width : ℕ) (from : ℕ → A)
+    (one : (x : A) (at : ℕ) (rest : List ℕ) → length (f x) ≡ width → Stands words at (f x) rest → from at ≡ x) where
+  entries : (at : ℕ) (xs : List A) (rest : List ℕ) → Wide f width xs → Stands words at (wordsOfEach f xs) rest
+      → {count : ℕ} → length xs ≡ count → readEach from width at count ≡ xs
+  unfolding readEach
+  entries at xs rest e s h = ap (readEach from width at) (sym h) ∙ go at xs e s
+    where
+      go : (at : ℕ) (xs : List A) → Wide f width xs → Stands words at (wordsOfEach f xs) rest → readEach from width at (length xs) ≡ xs
+      go at [] e s = refl
+      go at (x ∷ xs) e s =
+          let others = wordsOfEach f xs ++ rest in
+          let first : Stands words at (f x) others = s ∙ append-assoc (f x) (wordsOfEach f xs) rest in
+          ap₂ _∷_ (one x at others (e .0) first) (go (at + width) xs (e .1) (behind words at (f x) others first (at + width) (omega (arith, e .0))))
+
+-- the cells of a period, each of 4 words
+pub length-cell-words : (cs : List Cell) → Each FourLimbs cs → length (cellWords cs) ≡ 4 * length cs
+length-cell-words = length-words-of-each (λ c. c .energy) 4
+
+cells : (words : List ℕ) (at : ℕ) (cs : List Cell) (rest : List ℕ) → Each FourLimbs cs → Stands words at (cellWords cs) rest
+    → {count : ℕ} → length cs ≡ count → cellsFrom words at count ≡ cs
+cells words = entries words (λ c. c .energy) 4 (cellFrom words) (λ c at rest e s. ap (λ (l : List ℕ). record { energy = l }) (read words at (c .energy) rest s e))
+
+-- a period is read from where it stands, and what is behind it stands 128 words on
 module _ (words : List ℕ) (at : ℕ) (p : Period) (f : PeriodFits p) (rest : List ℕ) (s : Stands words at (periodWords p) rest) where
-  booked-first : Stands words at (p .booked) (p .accepted ++ (p .sum ++ rest))
+  booked-first : Stands words at (p .booked) (p .accepted ++ (cellWords (p .cells) ++ rest))
   booked-first = s ∙ simp append-assoc
 
-  accepted-next : Stands words (at + 16) (p .accepted) (p .sum ++ rest)
-  accepted-next = behind words at (p .booked) (p .accepted ++ (p .sum ++ rest)) booked-first (at + 16) (omega (arith, f .booked))
+  accepted-next : Stands words (at + 16) (p .accepted) (cellWords (p .cells) ++ rest)
+  accepted-next = behind words at (p .booked) (p .accepted ++ (cellWords (p .cells) ++ rest)) booked-first (at + 16) (omega (arith, f .booked))
 
-  sum-last : Stands words (at + 32) (p .sum) rest
-  sum-last = behind words (at + 16) (p .accepted) (p .sum ++ rest) accepted-next (at + 32) (omega (arith, f .accepted))
+  cells-last : Stands words (at + 32) (cellWords (p .cells)) rest
+  cells-last = behind words (at + 16) (p .accepted) (cellWords (p .cells) ++ rest) accepted-next (at + 32) (omega (arith, f .accepted))
 
   period : periodFrom words at ≡ p
   period =
       rw (
-        read words at (p .booked) (p .accepted ++ (p .sum ++ rest)) booked-first (f .booked),
-        read words (at + 16) (p .accepted) (p .sum ++ rest) accepted-next (f .accepted),
-        read words (at + 32) (p .sum) rest sum-last (f .sum),
+        read words at (p .booked) (p .accepted ++ (cellWords (p .cells) ++ rest)) booked-first (f .booked),
+        read words (at + 16) (p .accepted) (cellWords (p .cells) ++ rest) accepted-next (f .accepted),
+        cells words (at + 32) (p .cells) rest (f .limbs) cells-last (f .cells),
         narrowed-same (p .booked) (f .booked-narrow),
         narrowed-same (p .accepted) (f .accepted-narrow),
       )
 
-  after : drop (at + 36) words ≡ rest
-  after = behind words (at + 32) (p .sum) rest sum-last (at + 36) (omega (arith, f .sum))
+  after : drop (at + 128) words ≡ rest
+  after =
+      behind words (at + 32) (cellWords (p .cells)) rest cells-last (at + 128)
+      (omega (arith, length-cell-words (p .cells) (f .limbs), f .cells))
 
--- so is a highest level, and the highest level of each class
+-- so is a highest level, and the highest level of each class, of 2 words
 highest : (h : HighestLevel) (rest : List ℕ) → (let l = highestWords h ++ rest in highestMarked (getD l 0 0) (getD l 1 0)) ≡ h
 highest (highests.At l) rest = refl
 highest highests.Nothing rest = refl
@@ -83,20 +129,21 @@ pub two-words : (h : HighestLevel) → length (highestWords h) ≡ 2
 two-words (highests.At l) = refl
 two-words highests.Nothing = refl
 
-pub length-class-words : (cs : List ClassHighest) → length (classWords cs) ≡ 2 * length cs
-length-class-words [] = refl
-length-class-words (c ∷ cs) = rw length-append (omega (arith, two-words (c .level), length-class-words cs))
+class-wide : (cs : List ClassHighest) → Wide (λ c. highestWords (c .level)) 2 cs
+class-wide = wide (λ c. highestWords (c .level)) (λ c. two-words (c .level))
 
-classes : (words : List ℕ) (at : ℕ) (cs : List ClassHighest) (rest : List ℕ) → Stands words at (classWords cs) rest → classesFrom words at (length cs) ≡ cs
-unfolding classesFrom
-classes words at [] rest s = refl
-classes words at (c ∷ cs) rest s =
-    let others = classWords cs ++ rest in
-    let first : Stands words at (highestWords (c .level)) others = s ∙ append-assoc (highestWords (c .level)) (classWords cs) rest in
-    let word : (i : ℕ) → getD words (at + i) 0 ≡ getD (highestWords (c .level) ++ others) i 0 = λ i. sym (getD-drop at words i 0) ∙ ap (λ (l : List ℕ). getD l i 0) first in
-    let next = behind words at (highestWords (c .level)) others first (at + 2) (omega (arith, two-words (c .level))) in
+pub length-class-words : (cs : List ClassHighest) → length (classWords cs) ≡ 2 * length cs
+length-class-words cs = length-words-of-each (λ c. highestWords (c .level)) 2 cs (class-wide cs)
+
+class-read : (words : List ℕ) (c : ClassHighest) (at : ℕ) (rest : List ℕ) → Stands words at (highestWords (c .level)) rest → classFrom words at ≡ c
+class-read words c at rest s =
+    let word : (i : ℕ) → getD words (at + i) 0 ≡ getD (highestWords (c .level) ++ rest) i 0 = λ i. sym (getD-drop at words i 0) ∙ ap (λ (l : List ℕ). getD l i 0) s in
     let mark = ap (λ (n : ℕ). getD words n 0) (sym (add-zero at)) ∙ word 0 in
-    ap₂ _∷_ (ap (λ (h : HighestLevel). record { level = h }) (rw (mark, word 1) (highest (c .level) others))) (classes words (at + 2) cs rest next)
+    ap (λ (h : HighestLevel). record { level = h }) (rw (mark, word 1) (highest (c .level) rest))
+
+classes : (words : List ℕ) (at : ℕ) (cs : List ClassHighest) (rest : List ℕ) → Stands words at (classWords cs) rest
+    → {count : ℕ} → length cs ≡ count → classesFrom words at count ≡ cs
+classes words at cs rest = entries words (λ c. highestWords (c .level)) 2 (classFrom words) (λ c at rest e. class-read words c at rest) at cs rest (class-wide cs)
 
 -- so is a rate
 rate : (r : Rate) → rateFrom (rateWord r) ≡ r
@@ -113,25 +160,24 @@ day-read words d rest fits s =
     let by-class = classWords (d .«highest_by_class») ++ set in
     let others = restWords d ++ by-class in
     let by-night = periodWords (d .night) ++ others in
-    let second : drop 36 words ≡ by-night = after words 0 (d .daytime) (fits .daytime) by-night s in
-    let third : drop 72 words ≡ others = after words 36 (d .night) (fits .night) others second in
-    let fourth : drop 76 words ≡ by-class = behind words 72 (restWords d) by-class third 76 (omega (arith, two-words (d .highest))) in
-    let sixteen : classesFrom words 76 16 ≡ d .«highest_by_class» =
-    ap (classesFrom words 76) (sym (fits .byClass)) ∙ classes words 76 (d .«highest_by_class») set fourth in
-    let fifth : drop 108 words ≡ set =
-    behind words 76 (classWords (d .«highest_by_class»)) set fourth 108 (omega (arith, length-class-words (d .«highest_by_class»), fits .byClass)) in
-    let setting : (i : ℕ) → getD words (108 + i) 0 ≡ getD set i 0 = λ i. sym (getD-drop 108 words i 0) ∙ ap (λ (l : List ℕ). getD l i 0) fifth in
-    let word : (i : ℕ) → getD words (72 + i) 0 ≡ getD others i 0 = λ i. sym (getD-drop 72 words i 0) ∙ ap (λ (l : List ℕ). getD l i 0) third in
+    let second : drop 128 words ≡ by-night = after words 0 (d .daytime) (fits .daytime) by-night s in
+    let third : drop 256 words ≡ others = after words 128 (d .night) (fits .night) others second in
+    let fourth : drop 260 words ≡ by-class = behind words 256 (restWords d) by-class third 260 (omega (arith, two-words (d .highest))) in
+    let levels = d .«highest_by_class» in
+    let fifth : drop 292 words ≡ set =
+    behind words 260 (classWords levels) set fourth 292 (omega (arith, length-class-words levels, fits .byClass)) in
+    let setting : (i : ℕ) → getD words (292 + i) 0 ≡ getD set i 0 = λ i. sym (getD-drop 292 words i 0) ∙ ap (λ (l : List ℕ). getD l i 0) fifth in
+    let word : (i : ℕ) → getD words (256 + i) 0 ≡ getD others i 0 = λ i. sym (getD-drop 256 words i 0) ∙ ap (λ (l : List ℕ). getD l i 0) third in
     rw (
       period words 0 (d .daytime) (fits .daytime) by-night s,
-      period words 36 (d .night) (fits .night) others second,
+      period words 128 (d .night) (fits .night) others second,
       word 0,
       word 1,
       word 2,
       word 3,
       mod-eq-of-lt (fits .classes),
       highest (d .highest) by-class,
-      sixteen,
+      classes words 260 levels set fourth (fits .byClass),
       setting 0,
       setting 1,
       setting 2,
@@ -140,4 +186,4 @@ day-read words d rest fits s =
 
 pub inverse : InverseLaw
 unfolding dayWords
-inverse d fits = day-read (dayWords d) d (replicate 209 0) fits refl
+inverse d fits = day-read (dayWords d) d (replicate 25 0) fits refl

@@ -1,25 +1,23 @@
--- The words of a day are put; counts are read one by one.
-use mathlib.Core.Path.{_≡_, refl, ap, _∙_}
+-- The words of a day are put; counts, and the entries of a list, are read one by one.
+use mathlib.Core.Path.{_≡_, refl, sym, ap, _∙_}
 use mathlib.Core.List.{List, [], _∷_, _++_, append-assoc, append-nil}
-use Prim.Native.Nat.{ℕ, zero, suc, _+_, _*_, _%_, _≤_, _<_}
+use Prim.Native.Nat.{ℕ, zero, suc, _+_, _*_, _%_, _≤_, _<_, zero-le}
 use native.Mathlib.Numerals.{add-one}
 use native.Mathlib.Omega.{arith}
-use lib.ListN.{length, take, drop, getD, replicate, length-drop, length-map, List·getD-map}
+use lib.ListN.{length, take, drop, set, getD, replicate, length-drop, length-map, List·getD-map}
 use lib.Seq.{length-take-le, take-all, drop-cons, getD-take, getD-drop}
 use Rattle.quantity.specs.declared.HighestLevel.{HighestLevel}
 use Rattle.quantity.specs.declared.HighestLevel.the-variants as highests
 use Rattle.runs.specs.Put.{Put}
-use Rattle.runs.proofs.Putting.{then, same-length}
-use Rattle.ledger.specs.Day.{noneInClass}
-use Rattle.ledger.specs.declared.ClassHighest.{ClassHighest}
+use Rattle.runs.proofs.Putting.{nothing-put, then}
+use Rattle.runs.proofs.Filling.{Filling, filled-none, filled-more, filled-all}
 use Rattle.ledger.specs.declared.Day.{Day}
-use Rattle.day_words.specs.Words.{wordCount, periodWords, highestWords, restWords, classWords, settingsWords, dayWords, wordsAt, countsAt, highestMarked, classesFrom}
-use Rattle.day_words.proofs.Inverse.{length-class-words}
+use Rattle.day_words.specs.Words.{wordCount, wordsOfEach, periodWords, highestWords, restWords, classWords, settingsWords, dayWords, wordsAt, countsAt, readEach}
 
 -- the words of a day: what is used is put at the beginning of words that are 0
 pub put-day : (day : Day) {after : List ℕ} {next : ℕ}
     → Put (replicate wordCount 0) 0 (periodWords (day .daytime) ++ (periodWords (day .night) ++ (restWords day ++ (classWords (day .«highest_by_class») ++ settingsWords (day .settings))))) after next
-    → next ≡ 111 → after ≡ dayWords day
+    → next ≡ 295 → after ≡ dayWords day
 unfolding dayWords
 put-day day {after} {next} p e =
     p .run ∙ rw e (simp append-assoc)
@@ -31,46 +29,60 @@ length-counts words at room = rw (length-map, length-take-le 16 (drop at words) 
 pub count-at : (words : List ℕ) (at i : ℕ) → i < 16 → getD (countsAt words at 16) i 0 ≡ getD words (at + i) 0 % 65536
 count-at words at i h = List·getD-map (λ w. w % 65536) (wordsAt words at 16) i 0 ∙ rw (getD-take 16 (drop at words) i 0 h, getD-drop at words i 0)
 
--- so are the highest levels of the classes
-pub length-classes : (words : List ℕ) (at k : ℕ) → length (classesFrom words at k) ≡ k
-unfolding classesFrom
-length-classes words at zero = refl
-length-classes words at (suc k) = ap suc (length-classes words (at + 2) k)
+-- so are the entries of a list, each where it begins
+length-read : {A : Type 0} (from : ℕ → A) (width at count : ℕ) → length (readEach from width at count) ≡ count
+unfolding readEach
+length-read from width at zero = refl
+length-read from width at (suc k) = ap suc (length-read from width (at + width) k)
 
-pub class-at : (words : List ℕ) (at k i : ℕ) → i < k
-    → getD (classesFrom words at k) i noneInClass ≡ record { level = highestMarked (getD words (at + 2 * i) 0) (getD words (at + 2 * i + 1) 0) }
-unfolding classesFrom
-class-at words at zero i h = absurd (omega arith)
-class-at words at (suc k) zero h = let place : at + 2 * 0 ≡ at = omega arith in rw place
-class-at words at (suc k) (suc i) h =
-    let place : at + 2 + 2 * i ≡ at + 2 * suc i = omega arith in
-    rw (← place) (class-at words (at + 2) k i (omega arith))
+entry-at : {A : Type 0} (from : ℕ → A) (width at count i : ℕ) (d : A) → i < count → getD (readEach from width at count) i d ≡ from (at + width * i)
+unfolding readEach
+entry-at from width at zero i d h = absurd (omega arith)
+entry-at from width at (suc k) zero d h = let place : at + width * 0 ≡ at = omega arith in rw place
+entry-at from width at (suc k) (suc i) d h =
+    let place : at + width + width * i ≡ at + width * suc i = omega arith in
+    rw (← place) (entry-at from width (at + width) k i d (omega arith))
 
--- and put
-pub classes-more : (cs : List ClassHighest) (i : ℕ) → i < length cs
-    → classWords (take (i + 1) cs) ≡ classWords (take i cs) ++ highestWords (getD cs i noneInClass .level)
-classes-more cs i h = rw add-one (go cs i h)
+pub read-none : {A : Type 0} (from : ℕ → A) (width at count : ℕ) {array : List A} → length array ≡ count → Filling (readEach from width at count) array 0
+read-none from width at count same = filled-none (same ∙ sym (length-read from width at count))
+
+module _ {A : Type 0} (from : ℕ → A) (width at count : ℕ) {array : List A} {i : ℕ} (p : Filling (readEach from width at count) array i) where
+  pub read-more : {x : A} → i < count → x ≡ from (at + width * i) → Filling (readEach from width at count) (set array i x) (i + 1)
+  read-more h same = filled-more p (from at) (rw (length-read from width at count) h) (same ∙ sym (entry-at from width at count i (from at) h))
+
+  pub read-all : count ≤ i → array ≡ readEach from width at count
+  read-all h = filled-all p (rw (length-read from width at count) h)
+
+-- and put: at i, the entries before i are put, each of the same number of words
+each-more : {A : Type 0} (f : A → List ℕ) (d : A) (xs : List A) (i : ℕ) → i < length xs
+    → wordsOfEach f (take (i + 1) xs) ≡ wordsOfEach f (take i xs) ++ f (getD xs i d)
+each-more f d xs i h = rw add-one (go xs i h)
   where
-    go : (cs : List ClassHighest) (i : ℕ) → i < length cs → classWords (take (suc i) cs) ≡ classWords (take i cs) ++ highestWords (getD cs i noneInClass .level)
+    go : (xs : List _) (i : ℕ) → i < length xs → wordsOfEach f (take (suc i) xs) ≡ wordsOfEach f (take i xs) ++ f (getD xs i d)
     go [] i h = absurd (omega arith)
-    go (c ∷ cs) zero h = append-nil (highestWords (c .level))
-    go (c ∷ cs) (suc i) h = rw (go cs i (omega arith), append-assoc (highestWords (c .level)) (classWords (take i cs)) (highestWords (getD cs i noneInClass .level)))
+    go (x ∷ xs) zero h = append-nil (f x)
+    go (x ∷ xs) (suc i) h = rw (go xs i (omega arith), append-assoc (f x) (wordsOfEach f (take i xs)) (f (getD xs i d)))
 
-module _ {before after : List ℕ} {at place i : ℕ} (cs : List ClassHighest) (sixteen : length cs ≡ 16) (p : Put before at (classWords (take i cs)) after place) where
-  pub class-place : i ≤ 16 → place ≡ at + 2 * i
-  class-place h =
-      let part : length (take i cs) ≡ i = length-take-le i cs (omega (arith, sixteen)) in
-      omega (arith, p .end, length-class-words (take i cs), part)
+pub record PuttingEach {A : Type 0} (f : A → List ℕ) (width : ℕ) (xs : List A) (before : List ℕ) (at : ℕ) (after : List ℕ) (place i : ℕ) : Type 0 where
+  pub within : i ≤ length xs
+  pub here : place ≡ at + width * i
+  pub put : Put before at (wordsOfEach f (take i xs)) after place
 
-  pub class-room : at + 32 ≤ length before → i < 16 → place + 2 ≤ length after
-  class-room room h = let here : place ≡ at + 2 * i = class-place (omega arith) in omega (arith, same-length p)
+pub none-put : {A : Type 0} {f : A → List ℕ} {width : ℕ} {xs : List A} {before : List ℕ} {at : ℕ} → at ≤ length before → PuttingEach f width xs before at before at 0
+none-put h = record { within = zero-le; here = omega arith; put = nothing-put h }
 
-  pub class-put : {last : List ℕ} {next : ℕ} → i < 16 → Put after place (highestWords (getD cs i noneInClass .level)) last next
-      → Put before at (classWords (take (i + 1) cs)) last next
-  class-put h q = rw (classes-more cs i (omega (arith, sixteen))) (then p q)
+module _ {A : Type 0} {f : A → List ℕ} {width : ℕ} {xs : List A} {before : List ℕ} {at : ℕ} {after : List ℕ} {place i : ℕ} (p : PuttingEach f width xs before at after place i) where
+  pub one-put : (d : A) {numbers last : List ℕ} {next : ℕ} → i < length xs → numbers ≡ f (getD xs i d) → length numbers ≡ width
+      → Put after place numbers last next → PuttingEach f width xs before at last next (i + 1)
+  one-put d h same wide q =
+      record {
+        within = omega arith;
+        here = omega (arith, q .end, p .here);
+        put = rw (each-more f d xs i h, ← same) (then (p .put) q);
+      }
 
-  pub classes-put : 16 ≤ i → Put before at (classWords cs) after place
-  classes-put h = rw (take-all i cs (omega (arith, sixteen))) at p
+  pub all-put : length xs ≤ i → Put before at (wordsOfEach f xs) after place
+  all-put h = rw (take-all i xs h) at (p .put)
 
 -- the two words of a highest level, one by one
 pub both-words : (h : HighestLevel) → getD (highestWords h) 0 0 ∷ getD (highestWords h) 1 0 ∷ [] ≡ highestWords h

@@ -5,25 +5,27 @@ use mathlib.Core.List.{List, [], _∷_}
 use Prim.Native.Nat.{ℕ, zero, suc, _+_, _≤_, _<_}
 use native.Mathlib.Omega.{arith}
 use lib.Dec.{eqb, ltb}
-use lib.ListN.{length, getD, set, length-set, length-replicate}
+use lib.ListN.{length, getD, set, replicate, length-set, length-replicate}
 use borrow.Author.Needs.{needs}
 use borrow.Author.Tests.{ltb-false, leb-false}
+use Rattle.quantity.specs.Lists.{Each}
 use Rattle.quantity.specs.declared.Instant.{Instant}
 use Rattle.quantity.specs.Rules.{firstOf, refused, given, outcome, follow}
 use Rattle.quantity.proofs.Refusing.{pass}
 use Rattle.quantity.proofs.Tests.{neither}
 use Rattle.limbs.proofs.Digits.{length-limbsOf}
 use Rattle.ledger.specs.Book.{sumOf, padded, mostClasses, mostFlights, isBookInvalid}
+use Rattle.clock.specs.Clock.{hours}
 use Rattle.clock.specs.declared.Settings.{Settings}
-use Rattle.ledger.specs.Day.{Answered, freshPeriod, freshDay, noDay, openRules, openedDay, periodOf, withPeriod}
+use Rattle.ledger.specs.Day.{Answered, emptyCell, freshPeriod, freshDay, noDay, openRules, openedDay, periodOf, withPeriod}
 use Rattle.admission.specs.Checks.{dayChecks, inDaytime}
-use Rattle.offering.specs.Offer.{withEvent, admitted}
+use Rattle.offering.specs.Offer.{withEvent, inHour, admitted}
 use Rattle.ledger.specs.declared.Day.{Day}
 use Rattle.ledger.specs.declared.Period.{Period}
 use Rattle.ledger.proofs.Books.{book-fits}
 use Rattle.event.specs.Event.{eventOf}
 use Rattle.exposure.specs.Exposure.{energyOf}
-use Rattle.day_words.specs.Words.{Narrow, PeriodFits, DayFits, OpenedLaw, OfferedLaw}
+use Rattle.day_words.specs.Words.{Narrow, FourLimbs, PeriodFits, DayFits, OpenedLaw, OfferedLaw}
 
 length-padded : (k : ℕ) (xs : List ℕ) → length (padded k xs) ≡ k
 length-padded zero xs = refl
@@ -45,6 +47,17 @@ narrow-set (y ∷ ys) zero h small (suc i) = h (suc i)
 narrow-set (y ∷ ys) (suc k) h small zero = h 0
 narrow-set (y ∷ ys) (suc k) h small (suc i) = narrow-set ys k (λ j. h (suc j)) small i
 
+-- entries with a property: with one of them changed, and all the same
+module _ {A : Type 0} (P : A → Type 0) where
+  each-set : (xs : List A) (k : ℕ) (x : A) → Each P xs → P x → Each P (set xs k x)
+  each-set [] k x e h = tt
+  each-set (y ∷ ys) zero x e h = (h, e .1)
+  each-set (y ∷ ys) (suc k) x e h = (e .0, each-set ys k x (e .1) h)
+
+  each-same : (n : ℕ) (x : A) → P x → Each P (replicate n x)
+  each-same zero x h = tt
+  each-same (suc n) x h = (h, each-same n x h)
+
 below-sum : (xs : List ℕ) (i : ℕ) → getD xs i 0 ≤ sumOf xs
 unfolding sumOf
 below-sum [] i = omega arith
@@ -56,7 +69,8 @@ fresh-period-fits flights narrow =
     record {
       booked = length-padded mostClasses flights;
       accepted = length-replicate {A = ℕ} mostClasses 0;
-      sum = length-replicate {A = ℕ} 4 0;
+      cells = length-replicate hours emptyCell;
+      limbs = each-same FourLimbs hours emptyCell (length-replicate {A = ℕ} 4 0);
       booked-narrow = narrow-padded mostClasses flights narrow;
       accepted-narrow = narrow-padded mostClasses [] (λ i. omega arith);
     }
@@ -95,12 +109,14 @@ opened-fits o = go (firstOf (openRules o)) refl
         fresh-fits _ _ daytime night (book-fits daytime night valid .0) (λ i. omega (arith, below-sum daytime i)) (λ i. omega (arith, below-sum night i))
     go (suc n) h = fresh-fits _ _ [] [] (omega arith) (λ i. omega arith) (λ i. omega arith)
 
-with-event-fits : (p : Period) (class S : ℕ) → PeriodFits p → getD (p .accepted) class 0 < getD (p .booked) class 0 → PeriodFits (withEvent p class S)
-with-event-fits p class S f left =
+with-event-fits : (p : Period) (class hour S : ℕ) → PeriodFits p → getD (p .accepted) class 0 < getD (p .booked) class 0
+    → PeriodFits (withEvent p class hour S)
+with-event-fits p class hour S f left =
     record {
       booked = f .booked;
       accepted = rw length-set (f .accepted);
-      sum = length-limbsOf 4 _;
+      cells = rw length-set (f .cells);
+      limbs = each-set FourLimbs (p .cells) hour _ (f .limbs) (length-limbsOf 4 _);
       booked-narrow = f .booked-narrow;
       accepted-narrow = narrow-set (p .accepted) class (f .accepted-narrow) (omega (arith, f .booked-narrow class));
     }
@@ -120,9 +136,10 @@ offered-fits d o f = go (firstOf (dayChecks d o)) refl
     go : (n : ℕ) → firstOf (dayChecks d o) ≡ n → DayFits (follow (outcome n (admitted d o)) (λ k. record { day = d; answer = refused k }) (λ next. next) .day)
     go zero h =
         let r = o .recording in
-        let by-day = inDaytime (d .settings) r (eventOf (o .samples)) in
+        let event = eventOf (o .samples) in
+        let by-day = inDaytime (d .settings) r event in
         let left = leb-false _ _ (pass (dayChecks d o) (search needs) h .1 .1 .1 .1 .1 .1 .1 .1 .0) in
-        let with-event = with-event-fits (periodOf d by-day) (r .class) (energyOf (o .samples)) (period-fits d by-day f) left in
+        let with-event = with-event-fits (periodOf d by-day) (r .class) (inHour d r event) (energyOf (o .samples)) (period-fits d by-day f) left in
         let next = with-period-fits d by-day _ f with-event in
         record { classes = next .classes; daytime = next .daytime; night = next .night; byClass = rw length-set (next .byClass) }
     go (suc n) h = f

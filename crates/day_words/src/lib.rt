@@ -6,6 +6,7 @@ ghost use lib.ListN.{length};
 ghost use Rattle.runs.specs.Put.{Put};
 ghost use Rattle.day_words.specs.Words.{
   wordCount,
+  cellWords,
   periodWords,
   highestWords,
   restWords,
@@ -15,6 +16,7 @@ ghost use Rattle.day_words.specs.Words.{
   dayWords,
   wordsAt,
   countsAt,
+  cellsFrom,
   periodFrom,
   highestMarked,
   classesFrom,
@@ -24,6 +26,7 @@ ghost use Rattle.day_words.specs.Words.{
 };
 use clock::Rate;
 use clock::Settings;
+use ledger::Cell;
 use ledger::ClassHighest;
 use ledger::Day;
 use ledger::Period;
@@ -35,39 +38,63 @@ use quantity::Tick;
 // The words of a day. Those behind the last that is used are 0; fields to come take their places there.
 pub const DAY_WORDS: usize = 320;
 
-// Where the parts of a day begin: of a period its booked flights, its accepted events and its sum; of a day its periods and what stands behind them.
+// Where the parts of a day begin: of a period its booked flights, its accepted events and its cells; of a day its periods and what stands behind them.
 const ACCEPTED: usize = 16;
 
-const SUM: usize = 32;
+const CELLS: usize = 32;
 
 const DAYTIME: usize = 0;
 
-const NIGHT: usize = 36;
+const NIGHT: usize = 128;
 
-const CLASSES: usize = 72;
+const CLASSES: usize = 256;
 
-const END: usize = 73;
+const END: usize = 257;
 
-const HIGHEST_MARK: usize = 74;
+const HIGHEST_MARK: usize = 258;
 
-const HIGHEST: usize = 75;
+const HIGHEST: usize = 259;
 
-const HIGHEST_BY_CLASS: usize = 76;
+const HIGHEST_BY_CLASS: usize = 260;
 
-const SETTINGS: usize = 108;
+const SETTINGS: usize = 292;
 
-// Puts a period, 36 words.
+// The limbs of a cell: an array of its own, so that its length is known where it is lent.
+fn limbs_of(cell: Cell) -> [u32; 4]
+    ensures { λ r. ⌜ r ≡ cell .energy ⌝ }
+{
+    cell.energy
+}
+
+// Puts the energies of the clock hours, 96 words.
+fn put_cells(words: &mut [u32], at: usize, cells: [Cell; 24]) -> usize
+    requires { ⌜ at + 96 ≤ length (now words) ⌝ }
+    ensures { λ r. ⌜ Put (now (words .entry)) at (cellWords cells) (now (words .exit)) r ⌝ }
+    ensures place { λ r. ⌜ r ≡ at + 96 ⌝ }
+{
+    let mut place = at;
+    let mut i = 0;
+    while i < 24 {
+        let cell = cells[i];
+        let limbs = limbs_of(cell);
+        place = runs::put_words(words, place, &limbs);
+        i += 1;
+    }
+    place
+}
+
+// Puts a period, 128 words.
 fn put_period(words: &mut [u32; 320], at: usize, period: Period) -> usize
-    requires { ⌜ at + 36 ≤ wordCount ⌝ }
+    requires { ⌜ at + 128 ≤ wordCount ⌝ }
     ensures { λ r. ⌜ Put (now (words .entry)) at (periodWords period) (now (words .exit)) r ⌝ }
-    ensures place { λ r. ⌜ r ≡ at + 36 ⌝ }
+    ensures place { λ r. ⌜ r ≡ at + 128 ⌝ }
 {
     let booked = period.booked;
     let accepted = period.accepted;
-    let sum = period.sum;
+    let cells = period.cells;
     let first = runs::put_counts(words, at, &booked);
     let second = runs::put_counts(words, first, &accepted);
-    runs::put_words(words, second, &sum)
+    put_cells(words, second, cells)
 }
 
 // A highest level: whether there is one, and that level.
@@ -171,15 +198,31 @@ fn limbs_at(words: &[u32], at: usize) -> [u32; 4]
     [words[at], words[at + 1], words[at + 2], words[at + 3]]
 }
 
+// The energies of the clock hours, from a place on.
+fn cells_at(words: &[u32], at: usize) -> [Cell; 24]
+    requires { ⌜ at + 96 ≤ length (now words) ⌝ }
+    ensures { λ r. ⌜ r ≡ cellsFrom (now (words .entry)) at 24 ⌝ }
+{
+    let mut cells = ledger::empty_cells();
+    let mut i = 0;
+    while i < 24 {
+        cells[i] = Cell {
+            energy: limbs_at(words, at + 4 * i),
+        };
+        i += 1;
+    }
+    cells
+}
+
 // The period at a place.
 fn period_at(words: &[u32], at: usize) -> Period
-    requires { ⌜ at + 36 ≤ length (now words) ⌝ }
+    requires { ⌜ at + 128 ≤ length (now words) ⌝ }
     ensures { λ r. ⌜ r ≡ periodFrom (now (words .entry)) at ⌝ }
 {
     Period {
         booked: counts_at(words, at),
         accepted: counts_at(words, at + ACCEPTED),
-        sum: limbs_at(words, at + SUM),
+        cells: cells_at(words, at + CELLS),
     }
 }
 

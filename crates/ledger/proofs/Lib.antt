@@ -1,3 +1,4 @@
 -- The laws that the proofs of `ledger` share.
 pub mod Lists
 pub mod Books
+pub mod Cells

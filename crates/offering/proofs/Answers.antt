@@ -27,13 +27,13 @@ use Rattle.exposure.specs.Exposing.{Inside, Exposed}
 use Rattle.event.proofs.Runs.{highest-above}
 use Rattle.event.proofs.Whole.{any-above, in-window}
 use Rattle.ledger.specs.Book.{mostClasses}
-use Rattle.ledger.specs.Day.{periodOf, energyIn}
+use Rattle.ledger.specs.Day.{energyAt, periodOf}
 use Rattle.ledger.specs.declared.Day.{Day}
 use Rattle.admission.specs.Checks.{Offering, inDaytime, dayChecks}
 use Rattle.admission.specs.Judging.{judgedOf}
 use Rattle.admission.specs.declared.Recording.{Recording}
 use Rattle.admission.proofs.Rules.{short-enough}
-use Rattle.offering.specs.Offer.{admitted, offered, entered}
+use Rattle.offering.specs.Offer.{inHour, entered, admitted, offered}
 use Rattle.offering.specs.Entering.{Admissible}
 
 -- what holds of an offer that no rule refuses
@@ -53,6 +53,7 @@ module _ (day : Day) (r : Recording) (s : List ℕ) (h : firstOf (dayChecks day 
       record {
         class = leb-false _ _ (neither (leb (day .classes) (r .class)) (leb mostClasses (r .class)) (rules .1 .1 .0) .1);
         peak = omega (arith, w, short);
+        inDay = (window .peakFrom, window .peakBefore);
         end = omega (arith, w, window .ends, rate-most (day .settings .rate));
         left = leb-false _ _ (rules .1 .1 .1 .1 .1 .1 .1 .1 .0);
       }
@@ -72,13 +73,16 @@ not-admitted day o h = rw (refused-alike (firstOf (dayChecks day o)) (eventOf (o
 pub is-admitted : (day : Day) (o : Offering) {v : Event} → judgedOf day o ≡ given v → admitted day o ≡ offered day o
 is-admitted day o h = rw (given-alike (firstOf (dayChecks day o)) (eventOf (o .samples)) (admitted day o) h)
 
--- a sum does not see what an energy is modulo 2 ^ 128
-kept-modulo : (day : Day) (o : Offering) (S : ℕ) → let v = eventOf (o .samples) in
-    entered day (o .recording) v (value (limbsOf 4 S)) ≡ entered day (o .recording) v S
-kept-modulo day o S = rw (added-modulo 4 4 4 refl refl (energyIn (periodOf day (inDaytime (day .settings) (o .recording) (eventOf (o .samples))))) S refl)
+-- a cell does not see what an energy is modulo 2 ^ 128
+kept-modulo : (day : Day) (r : Recording) (v : Event) (S : ℕ) → entered day r v (value (limbsOf 4 S)) ≡ entered day r v S
+kept-modulo day r v S =
+    let cells = periodOf day (inDaytime (day .settings) r v) .cells in
+    rw (added-modulo 4 4 4 refl refl (energyAt cells (inHour day r v)) S refl)
 
 -- the answer to it
 pub answered : (day : Day) (o : Offering) (energy : List ℕ) (l : Reading) → let v = eventOf (o .samples) in
     Exposed (day .settings .rate) (slice (v .stretch .first) (v .stretch .end) (o .samples)) energy l
     → record { day = entered day (o .recording) v (value energy); answer = given (record { exposure = l; lmax = highest (o .samples) }) } ≡ admitted day o
-answered day o energy l x = rw (x .sum, kept-modulo day o (energies (slice (eventOf (o .samples) .stretch .first) (eventOf (o .samples) .stretch .end) (o .samples))), x .exposure)
+answered day o energy l x =
+    let v = eventOf (o .samples) in
+    rw (x .sum, kept-modulo day (o .recording) v (energies (slice (v .stretch .first) (v .stretch .end) (o .samples))), x .exposure)

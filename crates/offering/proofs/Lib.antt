@@ -1,2 +1,3 @@
 -- The laws that the proofs of `offering` share.
 pub mod Answers
+pub mod Entering

@@ -1,5 +1,6 @@
 // The calls of a script, made through the functions that C calls: each takes its arguments from the numbers of a line.
 use crate::angles;
+use crate::hours;
 use crate::pairs;
 use crate::thrusts;
 use script_text::answers;
@@ -190,6 +191,14 @@ fn highest_by_class(day: &[u32; 320], numbers: &[u32]) -> Text {
     text
 }
 
+// The two calls that begin with 'h': hour, and highest.
+fn hour_or_highest(day: &[u32; 320], numbers: &[u32], second: u8) -> Text {
+    if second == b'o' {
+        return hours::energy_of_hour(day, numbers);
+    }
+    highest_by_class(day, numbers)
+}
+
 // The record of a day with a level, by method one.
 fn record_of(level: u32) -> u64 {
     UPPER + level as u64
@@ -273,7 +282,7 @@ fn land_class(numbers: &[u32]) -> Text {
     with_value(answered(answer), answer, class as u32)
 }
 
-// Makes a call, told by its first letter.
+// Makes a call, told by its first letter, and hour from highest by the second.
 pub fn make(day: &mut [u32; 320], call: &[u8]) -> Text {
     let mut numbers = [0u32; MOST_NUMBERS];
     let words = words::read_words(call, &mut numbers);
@@ -285,7 +294,7 @@ pub fn make(day: &mut [u32; 320], call: &[u8]) -> Text {
         b'n' => end_for_next_day(day),
         b'o' => offer(day, &numbers, words),
         b'c' => close(day, &numbers),
-        b'h' => highest_by_class(day, &numbers),
+        b'h' => hour_or_highest(day, &numbers, words::byte_at(call, 1)),
         b'w' => week(&numbers, words.count),
         b'y' => year(&numbers, words.count),
         b'r' => rewrite(&numbers),

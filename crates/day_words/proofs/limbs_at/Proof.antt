@@ -1,5 +1,5 @@
-use borrow.Author.Needs.{needs}
 -- `day_words::limbs_at` meets its contract: four words, one by one.
+use borrow.Author.Needs.{needs}
 use Rattle.day_words.proofs.Putting.{four-words}
 use Rattle.day_words.proofs.limbs_at.Statement.{statement}
 use Rattle.day_words.proofs.limbs_at.Tie as tie

@@ -1,49 +1,43 @@
 -- `day_words::put_classes` meets its contract: the levels of the classes passed so far are put.
-use Prim.Native.Nat.{_-_, _≤_, zero-le}
+use Prim.Native.Nat.{_-_}
 use native.Mathlib.Omega.{arith}
-use lib.ListN.{take}
-use Rattle.runs.specs.Put.{Put}
-use Rattle.runs.proofs.Putting.{nothing-put}
 use Rattle.runs.proofs.Putting as putting
-use Rattle.day_words.specs.Words.{classWords}
-use Rattle.day_words.proofs.Inverse.{two-words}
-use Rattle.day_words.proofs.Putting.{class-place, class-room, class-put, classes-put}
+use Rattle.ledger.specs.Day.{noneInClass}
+use Rattle.day_words.specs.Words.{highestWords}
+use Rattle.day_words.proofs.Putting.{PuttingEach, none-put, one-put, all-put}
 use borrow.Author.Needs.{needs}
 use Rattle.day_words.proofs.put_classes.Statement.{statement}
 use Rattle.day_words.proofs.put_classes.Tie as tie
 
 abbrev Inv-loop : tie.InvT-loop
-Inv-loop words₀ at levels place₀ i₀ words place i = (i ≤ 16) × Put words₀ at (classWords (take i levels)) words place
+Inv-loop words₀ at levels place₀ i₀ words place i = PuttingEach (λ c. highestWords (c .level)) 2 levels words₀ at words place i
 
 abbrev μ-loop : tie.MeasureT-loop
 μ-loop words₀ at levels place₀ i₀ words place i = 16 - i
 
 loop-holds : tie.Need-loop-holds Inv-loop μ-loop
-loop-holds c = (zero-le, nothing-put (omega (arith, c .before .pre)))
+loop-holds c = none-put (omega (arith, c .before .pre))
+
+slice-aggregate-put-words : tie.Need-slice-aggregate-put-words Inv-loop μ-loop
+slice-aggregate-put-words c = search needs
 
 put-words-requires : tie.Need-put-words-requires Inv-loop μ-loop
 put-words-requires c κs =
     let k = c .before .before .before .before .before in
-    rw (c .before .before .highest-words .ensures, two-words)
-    (class-room (k .before .before .args .t3) (search needs) (k .loop .inv .1) (k .before .before .pre) (c .before .before .before .before .loop-test .taken))
+    omega (arith, putting.same-length (k .loop .inv .put), slice-aggregate-put-words c)
 
 loop-again : tie.Need-loop-again Inv-loop μ-loop
 loop-again c =
-    let k = c .before .before .before .before .before .before .before .before in
-    let below = c .before .before .before .before .before .before .before .loop-test .taken in (
-      omega (arith, below),
-      class-put (k .before .before .args .t3) (search needs) (k .loop .inv .1) below
-          (rw (c .before .before .before .before .before .highest-words .ensures) at (c .before .before .put-words .ensures)),
-    )
+    let put = c .before .before in
+    let entry = put .before .before .before in
+    let k = entry .before .before .before in
+    one-put (k .loop .inv) noneInClass (search needs) (entry .highest-words .ensures) (search needs) (put .put-words .ensures)
 
 same-length : tie.Need-same-length Inv-loop μ-loop
-same-length c = putting.same-length (c .before .loop .inv .1)
+same-length c = putting.same-length (c .before .loop .inv .put)
 
 returns : tie.Need-returns Inv-loop μ-loop
-returns c =
-    let levels = c .before .before .before .args .t3 in
-    let p = c .before .loop .inv in
-    (classes-put levels (search needs) (p .1) (c .loop-test .left), omega (arith, class-place levels (search needs) (p .1) (p .0), c .loop-test .left))
+returns c = let p = c .before .loop .inv in (all-put p (search needs), omega arith)
 
 pub put-classes-spec : {M : Type 1} → statement M
 put-classes-spec =
@@ -55,7 +49,7 @@ put-classes-spec =
     (λ c. search needs)
     (λ c. search needs)
     (λ c κs. search needs)
-    (λ c. search needs)
+    slice-aggregate-put-words
     put-words-requires
     (λ c. search needs)
     (λ c. search needs)

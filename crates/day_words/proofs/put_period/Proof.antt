@@ -1,4 +1,4 @@
--- `day_words::put_period` meets its contract: the flights of the book, the accepted events and the limbs of the sum, one behind the other.
+-- `day_words::put_period` meets its contract: the flights of the book, the accepted events and the cells, one behind the other.
 use native.Mathlib.Omega.{arith}
 use borrow.Author.Needs.{needs}
 use Rattle.runs.proofs.Putting.{then}
@@ -17,20 +17,17 @@ slice-aggregate-put-counts-2 c = search needs
 put-counts-requires-2 : tie.Need-put-counts-requires-2
 put-counts-requires-2 c κs = omega (arith, slice-aggregate-put-counts (c .before .before .before), slice-aggregate-put-counts-2 c)
 
-slice-aggregate-put-words : tie.Need-slice-aggregate-put-words
-slice-aggregate-put-words c = search needs
-
-put-words-requires : tie.Need-put-words-requires
-put-words-requires c κs =
-    let second = c .before .before .before in
-    omega (arith, slice-aggregate-put-counts (second .before .before .before), slice-aggregate-put-counts-2 second, slice-aggregate-put-words c)
+put-cells-requires : tie.Need-put-cells-requires
+put-cells-requires c κs =
+    let second = c .before .before in
+    omega (arith, slice-aggregate-put-counts (second .before .before .before), slice-aggregate-put-counts-2 second)
 
 returns : tie.Need-returns
 returns c =
-    let second = c .before .before .before in
+    let second = c .before .before in
     let first = second .before .before .before in (
-      then (first .put-counts .ensures) (then (second .put-counts2 .ensures) (c .put-words .ensures)),
-      omega (arith, slice-aggregate-put-counts (first .before), slice-aggregate-put-counts-2 (second .before), slice-aggregate-put-words (c .before)),
+      then (first .put-counts .ensures) (then (second .put-counts2 .ensures) (c .put-cells .ensures .0)),
+      omega (arith, slice-aggregate-put-counts (first .before), slice-aggregate-put-counts-2 (second .before)),
     )
 
 pub put-period-spec : {M : Type 1} → statement M
@@ -41,6 +38,5 @@ put-period-spec =
     put-counts-requires
     slice-aggregate-put-counts-2
     put-counts-requires-2
-    slice-aggregate-put-words
-    put-words-requires
+    put-cells-requires
     returns)
