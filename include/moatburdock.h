@@ -1,8 +1,8 @@
 /* Moatburdock: the ledger of an airport noise terminal, proved.
  *
  * Link with target/staticlib/libmoatburdock.a, which tools/c_library writes. The library keeps nothing between calls, allocates nothing and calls
- * nothing but memcpy and memset: all that it reads and writes is what it is lent here. An offer takes 11 kB of stack, and a step of the reader, which has a
- * room for the longest window of its own, 62 kB.
+ * nothing but memcpy and memset: all that it reads and writes is what it is lent here. An offer takes 14 kB of stack, and a step of the reader, which has a
+ * room for the longest window of its own, 71 kB.
  *
  * Levels are hundredths of a decibel, wind tenths of m/s. Times are ticks after local midnight, negative before it, and a tick is one sample: a tenth, a
  * twentieth or a fortieth of a second, by the rate with which a day is opened. A fly-over belongs to the day of its peak, whole. In

@@ -10,6 +10,7 @@ use borrow.Author.Tests.{eqb-true, eqb-false, ltb-false, not-false}
 use lib.Dec.{eqb, ltb}
 use lib.ListN.{length, getD, length-replicate}
 use Rattle.quantity.specs.Limits.{highestSample}
+use Rattle.quantity.specs.Lists.{Each}
 use Rattle.quantity.specs.Rules.{firstOf}
 use Rattle.quantity.specs.declared.HighestLevel.{HighestLevel}
 use Rattle.quantity.specs.declared.HighestLevel.the-variants as highests
@@ -28,7 +29,7 @@ use Rattle.ledger.specs.declared.ClassHighest.{ClassHighest}
 use Rattle.ledger.specs.declared.Day.{Day}
 use Rattle.accuracy.specs.Tally.{Held, Tally, bookOf, started}
 use Rattle.accuracy.specs.Laws.{Apart, WithinReach, periodEnergy}
-use Rattle.accuracy.specs.Hours.{PeaksInDay, heldEnergy}
+use Rattle.accuracy.specs.Hours.{HasPeak, PeaksInDay, heldEnergy}
 use Rattle.quantity.proofs.Tests.{neither}
 use Rattle.accuracy.proofs.Held.{lastEnd, last-within}
 use Rattle.accuracy.proofs.Lists.{padded-at, padded-sum, padded-zeros}
@@ -72,8 +73,8 @@ abbrev pub OfFirst : ℕ → List Held → Type 0
 OfFirst n [] = Unit
 OfFirst n (h ∷ hs) = (h .class < n) × OfFirst n hs
 
--- the bounds of a tally: 1 to 16 classes, no count passes the book, the stretches are of its classes, lie apart and within reach of the day and have their
--- peaks in it, and their energy is at most that of a sample of the highest level at each instant up to the last of them
+-- the bounds of a tally: 1 to 16 classes, no count passes the book, the stretches are of its classes, lie apart and within reach of the day, hold their
+-- peaks and have them in the day, and their energy is at most that of a sample of the highest level at each instant up to the last of them
 pub record Bounded (t : Tally) : Type 0 where
   pub some : 1 ≤ length (t .book true)
   pub most : length (t .book true) ≤ mostClasses
@@ -82,6 +83,7 @@ pub record Bounded (t : Tally) : Type 0 where
   pub counts : (p : Bool) (class : ℕ) → getD (t .count p) class 0 ≤ getD (t .book p) class 0
   pub classes : OfFirst (length (t .book true)) (t .stretches)
   pub within : WithinReach (t .settings .rate) (t .stretches)
+  pub held : Each HasPeak (t .stretches)
   pub peaks : PeaksInDay (t .settings .rate) (t .stretches)
   pub last : EndsWith (t .end) (t .stretches)
   pub apart : Apart (t .end) (t .stretches)
@@ -150,6 +152,7 @@ fresh o h =
             counts = λ p class. rw (zero-at n class) zero-le;
             classes = tt;
             within = tt;
+            held = tt;
             peaks = tt;
             last = tt;
             apart = tt;

@@ -1,12 +1,13 @@
 -- The energy of each clock hour is that of the tally's stretches, and every closing is the one by the two sums that the day kept before.
 use mathlib.Core.Path.{_≡_, refl, sym, ap, ap₂, _∙_, subst}
 use mathlib.Core.Bool.{Bool, true, false, cond}
-use mathlib.Core.List.{List, [], _∷_}
-use Prim.Native.Nat.{ℕ, zero, suc, _+_, _*_, _^_, _≤_, _<_}
+use mathlib.Core.List.{List, [], _∷_, _++_, map}
+use Prim.Native.Nat.{ℕ, zero, suc, _+_, _-_, _*_, _^_, _≤_, _<_}
 use native.Mathlib.Nat.{lt-of-le-of-lt, le-trans}
 use native.Mathlib.Omega.{arith}
 use borrow.Author.Tests.{ne-eqb, eqb-true, eqb-false}
 use lib.Dec.{eqb}
+use Rattle.quantity.specs.Lists.{Each}
 use Rattle.quantity.specs.Rules.{firstOf, outcome, follow}
 use Rattle.quantity.proofs.Tests.{test}
 use Rattle.power.specs.Power.{X, e, G}
@@ -14,7 +15,7 @@ use Rattle.limbs.specs.Value.{base, value, limbsOf}
 use Rattle.limbs.proofs.Digits.{value-limbsOf-whole}
 use Rattle.level.specs.Accuracy.{weighted}
 use Rattle.level.proofs.Bounds.{exact-low, exact-high}
-use Rattle.clock.specs.Clock.{hours, hourOf}
+use Rattle.clock.specs.Clock.{dayTicks, hours, hourOf}
 use Rattle.clock.specs.declared.Rate.{Rate}
 use Rattle.clock.proofs.Hours.{hour-below}
 use Rattle.decades.specs.Decades.{energies}
@@ -25,9 +26,10 @@ use Rattle.admission.specs.Checks.{Offering, dayChecks}
 use Rattle.method.specs.Method.{countsOf}
 use Rattle.closing.specs.Close.{closeRules, closingBy}
 use Rattle.accuracy.specs.Tally.{Call, offering, closing, Held, Tally, started, tallyOf, tallied, joined, periodIn, sameAs, tallyChecks, heldSamples}
-use Rattle.accuracy.specs.Terminal.{dayAfter, dayAfterCalls}
+use Rattle.accuracy.specs.Terminal.{dayAfter, dayAfterCalls, CalledDay, heldIn, rateIn}
 use Rattle.accuracy.specs.Laws.{Always, periodEnergy}
-use Rattle.accuracy.specs.Hours.{ofHour, heldEnergy, PeaksInDay, HourGives, HourLaw, sumOfHours, HoursAddUp, HourAccuracy, sumAfter, sumAfterCalls, closedBefore, LdnLaw}
+use Rattle.accuracy.specs.NextDay.{later, heldInRow}
+use Rattle.accuracy.specs.Hours.{ofHour, heldEnergy, HasPeak, PeakLaw, PeaksInDay, HourGives, HourLaw, sumOfHours, HoursAddUp, HourAccuracy, sumAfter, sumAfterCalls, closedBefore, LdnLaw}
 use Rattle.accuracy.proofs.Sums.{weighted-held, both-periods, period-part}
 use Rattle.accuracy.proofs.Cells.{hour-part, cell-has}
 use Rattle.accuracy.proofs.Agreement.{dayOfTally, Bounded, Agrees, fresh, energy-fits, sum-whole}
@@ -46,6 +48,26 @@ hour-gives t b hour =
 
 pub hour-law : HourLaw
 hour-law = always (λ t day. (hour : ℕ) → HourGives t day hour) hour-gives
+
+-- the peaks of the stretches of a day, and of days in a row
+peak-later : (ticks : ℕ) (h : Held) → HasPeak h → HasPeak (later ticks h)
+peak-later ticks h p =
+    let place : ticks + h .peak - (ticks + h .from) ≡ h .peak - h .from = omega arith in
+    (omega (arith, p .0), omega (arith, p .1), rw place (p .2))
+
+peaks-later : (ticks : ℕ) (hs held : List Held) → Each HasPeak hs → Each HasPeak held → Each HasPeak (map (later ticks) hs ++ held)
+peaks-later ticks [] held e d = d
+peaks-later ticks (h ∷ hs) held e d = (peak-later ticks h (e .0), peaks-later ticks hs held (e .1) d)
+
+peaks-of-day : (d : CalledDay) → Each HasPeak (heldIn d)
+peaks-of-day d = agree (d .opening) (d .opens) (d .calls) .bounded .held
+
+peaks-in-row : (d : CalledDay) (ds : List CalledDay) → Each HasPeak (heldInRow d ds)
+peaks-in-row d [] = peaks-of-day d
+peaks-in-row d (n ∷ ns) = peaks-later (dayTicks (rateIn d)) (heldInRow n ns) (heldIn d) (peaks-in-row n ns) (peaks-of-day d)
+
+pub peak-law : PeakLaw
+peak-law = (λ o h calls. agree o h calls .bounded .held, peaks-in-row)
 
 pub peaks-in-day : Always (λ t day. PeaksInDay (t .settings .rate) (t .stretches))
 peaks-in-day o h calls = agree o h calls .bounded .peaks

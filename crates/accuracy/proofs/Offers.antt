@@ -2,7 +2,7 @@
 use mathlib.Core.Path.{_≡_, refl, sym, ap, _∙_}
 use mathlib.Core.Bool.{Bool, true, false}
 use mathlib.Core.List.{List, _∷_}
-use Prim.Native.Nat.{ℕ, zero, suc, _+_, _≤_, _<_}
+use Prim.Native.Nat.{ℕ, zero, suc, _+_, _-_, _≤_, _<_}
 use native.Mathlib.Nat.{le-refl, le-trans, mul-le-mul-left}
 use native.Mathlib.Omega.{arith}
 use borrow.Author.Tests.{leb-false, eqb-false}
@@ -35,7 +35,7 @@ use Rattle.accuracy.proofs.Tests.{cond-both, first-limit, reached-equal
 use Rattle.accuracy.proofs.Held.{last-by, apart-later}
 use Rattle.accuracy.proofs.Lists.{padded-set, raised-within}
 use Rattle.accuracy.proofs.Cells.{cellsOfStretches}
-use Rattle.accuracy.proofs.Windows.{highest-stretch, stretch-energy, Admitted, admits}
+use Rattle.accuracy.proofs.Windows.{at-peak, highest-stretch, stretch-energy, Admitted, admits}
 use Rattle.accuracy.proofs.Agreement.{periodOfParts, periodOfTally, dayOfTally, Bounded, Agrees, period-of-tally, book-at, count-at}
 
 -- the rules against a day that a tally gives are the tally's own
@@ -106,6 +106,13 @@ module _ {t : Tally} (b : Bounded t) (class : ℕ) (booked : class < length (t .
   counted-within false g true = b .counts true
   counted-within false g false = raised-count false g
 
+-- a stretch has its highest level at its peak, whenever its window begins
+in-stretch : (start : ℕ) (s : List ℕ) → 0 < length s
+    → getD (stretchOf s) (start + peakOf s - (start + stretchFirst s)) 0 ≡ highest (stretchOf s)
+in-stretch start s h =
+    let place : start + peakOf s - (start + stretchFirst s) ≡ peakOf s - stretchFirst s = omega arith in
+    rw (place, highest-stretch s h) (at-peak s h)
+
 -- an offer that no rule of the tally refuses
 module _ {t : Tally} (b : Bounded t) (o : Offering) (free : firstOf (tallyChecks t o) ≡ 0) where
   admission : Admitted (t .settings .rate) o
@@ -143,6 +150,7 @@ module _ {t : Tally} (b : Bounded t) (o : Offering) (free : firstOf (tallyChecks
         counts = counted-within b class in-book p room;
         classes = (in-book, b .classes);
         within = ((omega (arith, a .inside .begins), omega (arith, in-window s, a .inside .ends)), b .within);
+        held = ((omega arith, omega arith, in-stretch (o .recording .start .0) s (a .some)), b .held);
         peaks = ((a .inside .peakFrom, a .inside .peakBefore), b .peaks);
         last = refl;
         apart = (le-refl _, omega arith, apart-later (t .stretches) (a .after) (b .apart));

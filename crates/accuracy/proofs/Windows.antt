@@ -26,15 +26,17 @@ use Rattle.admission.specs.Checks.{Offering, offerChecks}
 use Rattle.quantity.proofs.Tests.{neither}
 use Rattle.accuracy.proofs.Lists.{highest-slice, energies-most}
 
--- the stretch has the window's highest level
-pub highest-stretch : (s : List ℕ) → 0 < length s → highest (stretchOf s) ≡ highest s
-highest-stretch s h =
+-- the stretch has the window's highest level, at the peak
+pub at-peak : (s : List ℕ) → 0 < length s → getD (stretchOf s) (peakOf s - stretchFirst s) 0 ≡ highest s
+at-peak s h =
     let i = peak-inside s (refl, refl) (refl, refl) h in
     let n : stretchFirst s + (peakOf s - stretchFirst s) ≡ peakOf s = omega arith in
-    let at : getD (stretchOf s) (peakOf s - stretchFirst s) 0 ≡ highest s =
     getD-drop (stretchFirst s) (take (stretchEnd s) s) (peakOf s - stretchFirst s) 0
-    ∙ (rw (n, getD-take (stretchEnd s) s (peakOf s) 0 (i .1)) (peaks s h .there)) in
-    le-antisymm (highest-slice (stretchFirst s) (stretchEnd s) s) (rw at at (highest-above (stretchOf s) (peakOf s - stretchFirst s)))
+    ∙ (rw (n, getD-take (stretchEnd s) s (peakOf s) 0 (i .1)) (peaks s h .there))
+
+pub highest-stretch : (s : List ℕ) → 0 < length s → highest (stretchOf s) ≡ highest s
+highest-stretch s h =
+    le-antisymm (highest-slice (stretchFirst s) (stretchEnd s) s) (rw (at-peak s h) at (highest-above (stretchOf s) (peakOf s - stretchFirst s)))
 
 -- its energy is at most that of as many samples at a level that none passes
 pub stretch-energy : (c : ℕ) (s : List ℕ) → highest s ≤ c → energies (stretchOf s) + e c * stretchFirst s ≤ e c * stretchEnd s

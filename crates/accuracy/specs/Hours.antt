@@ -3,8 +3,9 @@
 use mathlib.Core.Path.{_≡_}
 use mathlib.Core.Bool.{Bool, true, false, cond}
 use mathlib.Core.List.{List, [], _∷_}
-use Prim.Native.Nat.{ℕ, zero, suc, _+_, _*_, _^_, _≤_, _<_}
+use Prim.Native.Nat.{ℕ, zero, suc, _+_, _-_, _*_, _^_, _≤_, _<_}
 use lib.Dec.{eqb}
+use lib.ListN.{getD}
 use Rattle.quantity.specs.Instants.{midnight}
 use Rattle.quantity.specs.Lists.{Each}
 use Rattle.quantity.specs.Rules.{firstOf, Outcome, outcome, follow}
@@ -13,6 +14,7 @@ use Rattle.limbs.specs.Value.{value, limbsOf}
 use Rattle.level.specs.Accuracy.{weighted}
 use Rattle.clock.specs.Clock.{dayEnd, hours, hourOf}
 use Rattle.clock.specs.declared.Rate.{Rate}
+use Rattle.event.specs.Window.{highest}
 use Rattle.decades.specs.Decades.{energies}
 use Rattle.exposure.specs.Exposure.{energyOf}
 use Rattle.ledger.specs.Day.{Opening, openRules, openedDay, energyIn, hourEnergy}
@@ -21,8 +23,9 @@ use Rattle.admission.specs.Checks.{dayChecks}
 use Rattle.method.specs.Method.{countsOf}
 use Rattle.closing.specs.Close.{Closing, closeRules, closingBy, closed}
 use Rattle.accuracy.specs.Tally.{Call, offering, closing, Held, Tally, periodIn, sameAs, heldSamples}
-use Rattle.accuracy.specs.Terminal.{dayAfter, dayAfterCalls}
+use Rattle.accuracy.specs.Terminal.{dayAfter, dayAfterCalls, CalledDay}
 use Rattle.accuracy.specs.Laws.{Always}
+use Rattle.accuracy.specs.NextDay.{heldInRow}
 
 -- the stretches whose peak lies in a clock hour, and the sum of e over stretches
 abbrev pub ofHour : Rate → ℕ → List Held → List Held
@@ -32,6 +35,13 @@ ofHour rate hour (h ∷ hs) = cond (eqb (hourOf rate (h .peak)) hour) (h ∷ ofH
 unfoldable pub heldEnergy : List Held → ℕ
 heldEnergy [] = 0
 heldEnergy (h ∷ hs) = energies (h .levels) + heldEnergy hs
+
+-- the peak of a stretch is an instant of it, at which it has its highest level; so it is for the stretches of a day, and for those of days in a row
+abbrev pub HasPeak : Held → Type 0
+HasPeak h = (h .from ≤ h .peak) × (h .peak < h .to) × (getD (h .levels) (h .peak - h .from) 0 ≡ highest (h .levels))
+
+abbrev pub PeakLaw : Type 0
+PeakLaw = Always (λ t day. Each HasPeak (t .stretches)) × ((d : CalledDay) (ds : List CalledDay) → Each HasPeak (heldInRow d ds))
 
 -- W-205: each stretch has its peak in the day, so in one of its 24 hours
 abbrev pub PeaksInDay : Rate → List Held → Type 0
