@@ -1,16 +1,17 @@
--- The energy of each clock hour is that of the tally's stretches, and every closing is the one by the two sums that the day kept before.
+-- The energy of each clock hour is that of the tally's stretches, whose peaks lie in them and in the day; and every closing is the one by the two sums that the
+-- day kept before.
 use mathlib.Core.Path.{_≡_, refl, sym, ap, ap₂, _∙_, subst}
 use mathlib.Core.Bool.{Bool, true, false, cond}
 use mathlib.Core.List.{List, [], _∷_, _++_, map}
-use Prim.Native.Nat.{ℕ, zero, suc, _+_, _-_, _*_, _^_, _≤_, _<_}
-use native.Mathlib.Nat.{lt-of-le-of-lt, le-trans}
+use Prim.Native.Nat.{ℕ, zero, suc, _+_, _-_, _^_, _≤_, _<_}
+use native.Mathlib.Nat.{lt-of-le-of-lt}
 use native.Mathlib.Omega.{arith}
 use borrow.Author.Tests.{ne-eqb, eqb-true, eqb-false}
 use lib.Dec.{eqb}
 use Rattle.quantity.specs.Lists.{Each}
 use Rattle.quantity.specs.Rules.{firstOf, outcome, follow}
 use Rattle.quantity.proofs.Tests.{test}
-use Rattle.power.specs.Power.{X, e, G}
+use Rattle.power.specs.Power.{e}
 use Rattle.limbs.specs.Value.{base, value, limbsOf}
 use Rattle.limbs.proofs.Digits.{value-limbsOf-whole}
 use Rattle.level.specs.Accuracy.{weighted}
@@ -20,16 +21,16 @@ use Rattle.clock.specs.declared.Rate.{Rate}
 use Rattle.clock.proofs.Hours.{hour-below}
 use Rattle.decades.specs.Decades.{energies}
 use Rattle.exposure.specs.Exposure.{energyOf}
-use Rattle.ledger.specs.Day.{Opening, openRules, openedDay, periodOf, energyIn, hourEnergy}
+use Rattle.ledger.specs.Day.{Opening, openRules, openedDay, periodOf, energyIn}
 use Rattle.ledger.specs.declared.Day.{Day}
-use Rattle.admission.specs.Checks.{Offering, dayChecks}
+use Rattle.admission.specs.Checks.{Offering}
 use Rattle.method.specs.Method.{countsOf}
 use Rattle.closing.specs.Close.{closeRules, closingBy}
 use Rattle.accuracy.specs.Tally.{Call, offering, closing, Held, Tally, started, tallyOf, tallied, joined, periodIn, sameAs, tallyChecks, heldSamples}
-use Rattle.accuracy.specs.Terminal.{dayAfter, dayAfterCalls, CalledDay, heldIn, rateIn}
+use Rattle.accuracy.specs.Terminal.{dayAfterCalls, CalledDay, heldIn, rateIn}
 use Rattle.accuracy.specs.Laws.{Always, periodEnergy}
 use Rattle.accuracy.specs.NextDay.{later, heldInRow}
-use Rattle.accuracy.specs.Hours.{ofHour, heldEnergy, HasPeak, PeakLaw, PeaksInDay, HourGives, HourLaw, sumOfHours, HoursAddUp, HourAccuracy, sumAfter, sumAfterCalls, closedBefore, LdnLaw}
+use Rattle.accuracy.specs.Hours.{ofHour, heldEnergy, HasPeak, PeakLaw, PeaksInDay, HourGives, HourLaw, sumOfHours, AddUp, HoursAddUp, HourAccuracy, sumAfter, sumAfterCalls, LdnLaw}
 use Rattle.accuracy.proofs.Sums.{weighted-held, both-periods, period-part}
 use Rattle.accuracy.proofs.Cells.{hour-part, cell-has}
 use Rattle.accuracy.proofs.Agreement.{dayOfTally, Bounded, Agrees, fresh, energy-fits, sum-whole}
@@ -102,16 +103,15 @@ hours-sum rate (h ∷ hs) peaks =
     split-hour : (hour : ℕ) → heldEnergy (ofHour rate hour (h ∷ hs)) ≡ cond (eqb (hourOf rate (h .peak)) hour) (energies (h .levels)) 0 + heldEnergy (ofHour rate hour hs)
     split-hour hour = test (eqb (hourOf rate (h .peak)) hour) (λ t. rw t) (λ f. rw f (omega arith))
 
-hours-add-up-in : (t : Tally) → Bounded t
-    → sumOfHours (λ hour. value (hourEnergy (dayOfTally t) hour)) hours ≡ energyIn (dayOfTally t .daytime) + energyIn (dayOfTally t .night)
-hours-add-up-in t b =
+add-up : (t : Tally) → Bounded t → AddUp (dayOfTally t)
+add-up t b =
     ap (λ (f : ℕ → ℕ). sumOfHours f hours) (λ i hour. hour-gives t b hour i)
     ∙ hours-sum (t .settings .rate) (t .stretches) (b .peaks)
     ∙ sym (both-periods (t .stretches))
     ∙ sym (ap₂ _+_ (sum-whole b true) (sum-whole b false))
 
 pub hours-add-up : HoursAddUp
-hours-add-up = always (λ t day. sumOfHours (λ hour. value (hourEnergy day hour)) hours ≡ energyIn (day .daytime) + energyIn (day .night)) hours-add-up-in
+hours-add-up = always (λ t day. AddUp day) add-up
 
 -- samples of weight 1 have the energy of their stretches
 unweighted : (hs : List Held) → weighted e (heldSamples (λ p. 1) hs) ≡ heldEnergy hs

@@ -60,8 +60,11 @@ abbrev pub sumOfHours : (energy : ℕ → ℕ) → ℕ → ℕ
 sumOfHours energy zero = 0
 sumOfHours energy (suc n) = sumOfHours energy n + energy n
 
+abbrev pub AddUp : Day → Type 0
+AddUp day = sumOfHours (λ hour. value (hourEnergy day hour)) hours ≡ energyIn (day .daytime) + energyIn (day .night)
+
 abbrev pub HoursAddUp : Type 0
-HoursAddUp = Always (λ t day. sumOfHours (λ hour. value (hourEnergy day hour)) hours ≡ energyIn (day .daytime) + energyIn (day .night))
+HoursAddUp = Always (λ t day. AddUp day)
 
 -- Beyond the request: how far that number, S, is from the exact energy of these stretches, the sum of 10 ^ (c / 1000) over their samples, in units of which a
 -- sample of level 0 has G. To K places, for every K: the exact energy is at most S raised by one part in G, and S is at most the exact energy.
