@@ -6,13 +6,15 @@ use Prim.Native.Nat.{ℕ, zero, suc, _^_, _≤_, _<_}
 use native.Mathlib.Nat.{mod-lt}
 use native.Mathlib.Omega.{arith}
 use lib.Dec.{ltb, lit<}
-use lib.ListN.{replicate}
+use lib.ListN.{getD}
 use Rattle.quantity.specs.Rules.{refused, given, firstOf, outcome, follow}
 use Rattle.quantity.specs.Lent.{leaves}
 use Rattle.quantity.specs.Limits.{highestSample}
 use Rattle.quantity.specs.declared.HighestLevel.{HighestLevel}
 use Rattle.quantity.specs.declared.HighestLevel.the-variants as highests
 use Rattle.quantity.specs.declared.Level.{Level}
+use Rattle.quantity.specs.Lists.{Each}
+use Rattle.quantity.proofs.Lists.{each-at, each-set, each-same}
 use Rattle.quantity.proofs.Instants.{ticks-back}
 use Rattle.quantity.proofs.Tests.{test}
 use Rattle.limbs.specs.Value.{value, base}
@@ -44,9 +46,11 @@ abbrev pub Low : HighestLevel → Type 0
 Low (highests.At l) = l .0 ≤ highestSample
 Low highests.Nothing = Unit
 
+abbrev pub LowClass : ClassHighest → Type 0
+LowClass c = Low (c .level)
+
 abbrev pub AllLow : List ClassHighest → Type 0
-AllLow [] = Unit
-AllLow (c ∷ cs) = Low (c .level) × AllLow cs
+AllLow = Each LowClass
 
 pub record Reached (d : Day) : Type 0 where
   pub fits : DayFits d
@@ -69,12 +73,8 @@ module _ (day : List ℕ) (o : Opening) where
       go zero h e f = (h, refl, f)
       go (suc n) h e f = absurd (omega arith)
 
-none-low : (n : ℕ) → AllLow (replicate n noneInClass)
-none-low zero = tt
-none-low (suc n) = (tt, none-low n)
-
 fresh-reached : (o : Opening) → DayFits (openedDay o) → Reached (openedDay o)
-fresh-reached o f = record { fits = f; highest = tt; byClass = none-low mostClasses }
+fresh-reached o f = record { fits = f; highest = tt; byClass = each-same LowClass mostClasses noneInClass tt }
 
 -- so is the day after an offer
 raised-low : (h : HighestLevel) (l : Level) → Low h → l .0 ≤ highestSample → Low (raised h l)
@@ -82,9 +82,8 @@ raised-low highests.Nothing l p q = q
 raised-low (highests.At h) l p q = test (ltb (h .0) (l .0)) (λ t. rw t q) (λ t. rw t p)
 
 raised-all-low : (cs : List ClassHighest) (k : ℕ) (l : Level) → AllLow cs → l .0 ≤ highestSample → AllLow (raisedInClass cs k l)
-raised-all-low [] k l p q = p
-raised-all-low (c ∷ cs) zero l p q = (raised-low (c .level) l (p .0) q, p .1)
-raised-all-low (c ∷ cs) (suc k) l p q = (p .0, raised-all-low cs k l (p .1) q)
+raised-all-low cs k l p q =
+    each-set LowClass cs k _ p (raised-low (getD cs k noneInClass .level) l (each-at LowClass cs k noneInClass p tt) q)
 
 same-highest : (d : Day) (b : Bool) (p : Period) → withPeriod d b p .highest ≡ d .highest
 same-highest d true p = refl

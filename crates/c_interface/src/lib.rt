@@ -1,5 +1,5 @@
-// The entry points for C and Rust: on numbers, and with the day as 320 words that the caller lends. Each answers 0 or the number of a refusal, and a
-// refused call leaves all that it was lent as it was. Levels are hundredths of a decibel; NOTHING stands for 'below scale' and for no Lmax.
+// The entry points for C and Rust: on numbers, and with the day as 320 words that the caller lends. Each that can be refused answers 0 or the number of
+// the refusal, and a refused call leaves all that it was lent as it was. Levels are hundredths of a decibel; NOTHING stands for 'below scale' and for no Lmax.
 ghost use mathlib.Core.Path.{_≡_};
 ghost use Prim.Native.Nat.{_+_, _*_, _<_, _≤_};
 ghost use Rattle.quantity.specs.Answers.{reading, methodNumber, highestReading};

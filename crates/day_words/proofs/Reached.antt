@@ -5,12 +5,12 @@ use mathlib.Core.List.{List, [], _∷_}
 use Prim.Native.Nat.{ℕ, zero, suc, _+_, _≤_, _<_}
 use native.Mathlib.Omega.{arith}
 use lib.Dec.{eqb, ltb}
-use lib.ListN.{length, getD, set, replicate, length-set, length-replicate}
+use lib.ListN.{length, getD, set, length-set, length-replicate}
 use borrow.Author.Needs.{needs}
 use borrow.Author.Tests.{ltb-false, leb-false}
-use Rattle.quantity.specs.Lists.{Each}
 use Rattle.quantity.specs.declared.Instant.{Instant}
 use Rattle.quantity.specs.Rules.{firstOf, refused, given, outcome, follow}
+use Rattle.quantity.proofs.Lists.{each-set, each-same}
 use Rattle.quantity.proofs.Refusing.{pass}
 use Rattle.quantity.proofs.Tests.{neither}
 use Rattle.limbs.proofs.Digits.{length-limbsOf}
@@ -20,6 +20,7 @@ use Rattle.clock.specs.declared.Settings.{Settings}
 use Rattle.ledger.specs.Day.{Answered, emptyCell, freshPeriod, freshDay, noDay, openRules, openedDay, periodOf, withPeriod}
 use Rattle.admission.specs.Checks.{dayChecks, inDaytime}
 use Rattle.offering.specs.Offer.{withEvent, inHour, admitted}
+use Rattle.offering.specs.Entering.{HasFlight}
 use Rattle.ledger.specs.declared.Day.{Day}
 use Rattle.ledger.specs.declared.Period.{Period}
 use Rattle.ledger.proofs.Books.{book-fits}
@@ -46,17 +47,6 @@ narrow-set (y ∷ ys) zero h small zero = small
 narrow-set (y ∷ ys) zero h small (suc i) = h (suc i)
 narrow-set (y ∷ ys) (suc k) h small zero = h 0
 narrow-set (y ∷ ys) (suc k) h small (suc i) = narrow-set ys k (λ j. h (suc j)) small i
-
--- entries with a property: with one of them changed, and all the same
-module _ {A : Type 0} (P : A → Type 0) where
-  each-set : (xs : List A) (k : ℕ) (x : A) → Each P xs → P x → Each P (set xs k x)
-  each-set [] k x e h = tt
-  each-set (y ∷ ys) zero x e h = (h, e .1)
-  each-set (y ∷ ys) (suc k) x e h = (e .0, each-set ys k x (e .1) h)
-
-  each-same : (n : ℕ) (x : A) → P x → Each P (replicate n x)
-  each-same zero x h = tt
-  each-same (suc n) x h = (h, each-same n x h)
 
 below-sum : (xs : List ℕ) (i : ℕ) → getD xs i 0 ≤ sumOf xs
 unfolding sumOf
@@ -109,8 +99,7 @@ opened-fits o = go (firstOf (openRules o)) refl
         fresh-fits _ _ daytime night (book-fits daytime night valid .0) (λ i. omega (arith, below-sum daytime i)) (λ i. omega (arith, below-sum night i))
     go (suc n) h = fresh-fits _ _ [] [] (omega arith) (λ i. omega arith) (λ i. omega arith)
 
-with-event-fits : (p : Period) (class hour S : ℕ) → PeriodFits p → getD (p .accepted) class 0 < getD (p .booked) class 0
-    → PeriodFits (withEvent p class hour S)
+with-event-fits : (p : Period) (class hour S : ℕ) → PeriodFits p → HasFlight p class → PeriodFits (withEvent p class hour S)
 with-event-fits p class hour S f left =
     record {
       booked = f .booked;
