@@ -54,7 +54,7 @@ enum moatburdock_refusal {
     MOATBURDOCK_LEVEL_TOO_HIGH,         /* a sample, the background or a verdict's Lmax above 14000 */
     MOATBURDOCK_WEATHER,                /* wet, or wind above 100 */
     MOATBURDOCK_BACKGROUND_TOO_NEAR,    /* Lmax less than 1500 above the background */
-    MOATBURDOCK_STRETCH_CUT,            /* the stretch touches the first or the last sample */
+    MOATBURDOCK_STRETCH_CUT,            /* the first or the last sample of the window is at most 1000 below Lmax, and so in the stretch */
     MOATBURDOCK_STRETCH_OVERLAPS,       /* the stretch begins before the end of the last accepted one, or before that of the day before */
     MOATBURDOCK_FLIGHTS_USED_UP,        /* as many events of that class and period are accepted as the book has flights */
     MOATBURDOCK_BOOK_INVALID,           /* not 1 to 16 classes, lists of unequal length, or more than 2000 flights */
@@ -101,8 +101,9 @@ uint8_t moatburdock_open_day(uint32_t day[MOATBURDOCK_DAY_WORDS], uint32_t rate,
                              int32_t end_of_day_before, const uint16_t *daytime, size_t daytime_classes, const uint16_t *night, size_t night_classes);
 
 /* Offers a fly-over: a window of A-levels, one a tick, that begins at start. Its peak is in the day; the window may begin before midnight and end after the
- * day. Accepted, it is added to the day, and the exposure level LAE (or MOATBURDOCK_NOTHING) and Lmax are given. Refusals 1 to 9, the first in their order
- * that holds. */
+ * day. Its stretch runs from the first to the last sample that is at most 1000, that is 10 dB, below Lmax, both in; samples that dip lower in between belong to
+ * it and add their energy. Accepted, it is added to the day, and the exposure level LAE of its stretch (or MOATBURDOCK_NOTHING) and Lmax are given. Refusals 1
+ * to 9, the first in their order that holds. */
 uint8_t moatburdock_offer(uint32_t day[MOATBURDOCK_DAY_WORDS], int32_t start, uint8_t flight_class, uint16_t wind, bool wet, uint32_t background,
                           const uint16_t *samples, size_t sample_count, uint32_t *exposure, uint32_t *lmax);
 

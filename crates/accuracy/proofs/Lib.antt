@@ -15,3 +15,5 @@ pub mod Before
 pub mod NextDay
 pub mod Hours
 pub mod Midnight
+pub mod Unbroken
+pub mod Raised

@@ -105,7 +105,7 @@ module _ (d : Day) (end : Instant) (alike : Alike end (d .end)) (o : Offering) w
       let day = neither (ltb start midnight) (ltb (dayEnd rate) (start + n)) w in
       let from = ltb-false start midnight (day .0) in
       let to = ltb-false (dayEnd rate) (start + n) (day .1) in
-      let places = peak-inside (o .samples) (refl, refl) (refl, refl) (omega arith) in
+      let places = peak-inside (o .samples) (omega arith) in
       let window = in-window (o .samples) in
       rw (
         w,

@@ -141,7 +141,7 @@ module _ {t : Tally} (b : Bounded t) (o : Offering) (free : firstOf (tallyChecks
       let count = getD (t .count p) class 0 in
       let flights = getD (t .book p) class 0 in
       let room : HasRoom t class p = omega (arith, b .counts p class, eqb-false count flights (a .unused)) in
-      let places = peak-inside s (refl, refl) (refl, refl) (a .some) in
+      let places = peak-inside s (a .some) in
       record {
         some = b .some;
         most = b .most;

@@ -1,5 +1,5 @@
 -- What is known of the stretch of an offer that no rule refuses.
-use mathlib.Core.Path.{_≡_, refl, sym, ap, _∙_}
+use mathlib.Core.Path.{_≡_, sym, ap, _∙_}
 use mathlib.Core.Bool.{Bool, false}
 use mathlib.Core.List.{List}
 use Prim.Native.Nat.{ℕ, _+_, _-_, _*_, _≤_, _<_}
@@ -20,7 +20,7 @@ use Rattle.clock.proofs.Inside.{Inside, inside}
 use Rattle.event.specs.Window.{highest, peakOf, anyAbove}
 use Rattle.event.specs.Stretch.{stretchFirst, stretchEnd, stretchOf}
 use Rattle.decades.specs.Decades.{energies}
-use Rattle.event.proofs.Runs.{peaks, highest-above}
+use Rattle.event.proofs.Places.{peaks, highest-above}
 use Rattle.event.proofs.Whole.{any-above, in-window, peak-inside}
 use Rattle.admission.specs.Checks.{Offering, offerChecks}
 use Rattle.quantity.proofs.Tests.{neither}
@@ -29,7 +29,7 @@ use Rattle.accuracy.proofs.Lists.{highest-slice, energies-most}
 -- the stretch has the window's highest level, at the peak
 pub at-peak : (s : List ℕ) → 0 < length s → getD (stretchOf s) (peakOf s - stretchFirst s) 0 ≡ highest s
 at-peak s h =
-    let i = peak-inside s (refl, refl) (refl, refl) h in
+    let i = peak-inside s h in
     let n : stretchFirst s + (peakOf s - stretchFirst s) ≡ peakOf s = omega arith in
     getD-drop (stretchFirst s) (take (stretchEnd s) s) (peakOf s - stretchFirst s) 0
     ∙ (rw (n, getD-take (stretchEnd s) s (peakOf s) 0 (i .1)) (peaks s h .there))

@@ -9,3 +9,4 @@ pub mod Before
 pub mod NextDay
 pub mod Hours
 pub mod Midnight
+pub mod Unbroken

@@ -1,5 +1,5 @@
--- The laws of windows: one turn of each loop, and the stretch as the only unbroken run.
+-- The laws of windows: places that pass a test, one turn of each loop, blocks, and the stretch as the text has it.
+pub mod Places
 pub mod Turns
-pub mod Runs
 pub mod Blocks
 pub mod Whole

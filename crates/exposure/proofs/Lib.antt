@@ -1,3 +1,3 @@
--- The laws of exposure: a run inside a window, and demand 3 for one event.
+-- The laws of exposure: a stretch inside a window, and demand 3 for one event.
 pub mod Stretches
 pub mod Accuracy

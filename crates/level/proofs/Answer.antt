@@ -24,7 +24,7 @@ use Rattle.power.specs.Root.{greatest}
 use Rattle.power.specs.Power.{e}
 use Rattle.power.proofs.Search.{turn-le}
 use Rattle.power.proofs.Scale.{e-mono, below-e}
-use Rattle.level.specs.Level.{levelOf}
+use Rattle.level.specs.Level.{levelOf, NoHigher}
 use Rattle.level.specs.Leading.{lowered}
 
 -- what an answer says of the sum: as e rises, this holds of one answer alone
@@ -51,6 +51,15 @@ only d M S (level r) (level s) a b = ap level (omega (arith, lt-of-product M (lt
 only d M S (level r) below-scale a b = absurd (omega (arith, lt-of-product M (lt-of-le-of-lt (a .0) b)))
 only d M S below-scale (level s) a b = absurd (omega (arith, lt-of-product M (lt-of-le-of-lt (b .0) a)))
 only d M S below-scale below-scale a b = refl
+
+-- a level rises with its sum
+pub level-rises : (d M : ℕ) {S T : ℕ} → 0 < M → S ≤ T → NoHigher (levelOf d M S) (levelOf d M T)
+level-rises d M {S} {T} p h = go (levelOf d M S) (levelOf d M T) (answers d M S p) (answers d M T p)
+  where
+    go : (a b : Reading) → Answers d M S a → Answers d M T b → NoHigher a b
+    go (level r) (level s) a b = omega (arith, lt-of-product M (lt-of-le-of-lt (a .0) (lt-of-le-of-lt h (b .1))))
+    go (level r) below-scale a b = absurd (omega (arith, lt-of-product M (lt-of-le-of-lt (a .0) (lt-of-le-of-lt h b))))
+    go below-scale b _ _ = tt
 
 -- the two ways between an answer's equation and what it says
 pub said : (d M S : ℕ) {a : Reading} → 0 < M → levelOf d M S ≡ a → Answers d M S a

@@ -24,7 +24,7 @@ use Rattle.clock.proofs.Rates.{rate-most}
 use Rattle.event.specs.Event.{eventOf}
 use Rattle.event.specs.declared.Event.{Event}
 use Rattle.exposure.specs.Exposing.{Inside, Exposed}
-use Rattle.event.proofs.Runs.{highest-above}
+use Rattle.event.proofs.Places.{highest-above}
 use Rattle.event.proofs.Whole.{any-above, in-window}
 use Rattle.ledger.specs.Book.{mostClasses}
 use Rattle.ledger.specs.Day.{energyAt, periodOf}
