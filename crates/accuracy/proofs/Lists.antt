@@ -1,4 +1,4 @@
--- Laws on plain lists: a list in a number of places, a count or a sum that is raised, and the highest of a part of a list.
+-- Laws on plain lists: a list in a number of places, a count or a sum that is raised, and the highest and the energy of a part of a list.
 use mathlib.Core.Path.{_≡_, refl, ap}
 use mathlib.Core.List.{List, [], _∷_, map}
 use Prim.Native.Nat.{ℕ, zero, suc, _+_, _*_, _≤_, _<_, zero-le}
@@ -86,3 +86,28 @@ energies-most c (x ∷ xs) h =
     let l : highest xs ≤ c = omega arith in
     let m : x ≤ c = omega arith in
     omega (arith, e-mono m, energies-most c xs l)
+
+-- a part of a list has at most the energy of a part that it lies in
+
+drop-energy : (i j : ℕ) (s : List ℕ) → i ≤ j → energies (drop j s) ≤ energies (drop i s)
+unfolding energies
+drop-energy zero zero s h = le-refl _
+drop-energy zero (suc j) [] h = le-refl _
+drop-energy zero (suc j) (c ∷ cs) h = omega (arith, drop-energy zero j cs zero-le)
+drop-energy (suc i) zero s h = absurd (omega arith)
+drop-energy (suc i) (suc j) [] h = le-refl _
+drop-energy (suc i) (suc j) (c ∷ cs) h = drop-energy i j cs (omega arith)
+
+slice-energy : (a i j : ℕ) (s : List ℕ) → i ≤ j → energies (slice a i s) ≤ energies (slice a j s)
+unfolding energies
+slice-energy zero zero j s h = zero-le
+slice-energy zero (suc i) zero s h = absurd (omega arith)
+slice-energy zero (suc i) (suc j) [] h = le-refl _
+slice-energy zero (suc i) (suc j) (c ∷ cs) h = omega (arith, slice-energy zero i j cs (omega arith))
+slice-energy (suc a) zero j s h = zero-le
+slice-energy (suc a) (suc i) zero s h = absurd (omega arith)
+slice-energy (suc a) (suc i) (suc j) [] h = le-refl _
+slice-energy (suc a) (suc i) (suc j) (c ∷ cs) h = slice-energy a i j cs (omega arith)
+
+pub part-energy : (s : List ℕ) {first end from to : ℕ} → from ≤ first → end ≤ to → energies (slice first end s) ≤ energies (slice from to s)
+part-energy s {first} {end} {from} {to} l h = le-trans (drop-energy from first (take end s) l) (slice-energy from end to s h)

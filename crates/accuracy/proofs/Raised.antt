@@ -3,14 +3,14 @@ use mathlib.Core.Path.{_≡_, refl, sym, _∙_}
 use mathlib.Core.Bool.{false, true≢false}
 use mathlib.Core.List.{List, [], _∷_}
 use Prim.Native.Nat.{ℕ, zero, suc, _+_, _-_, _≤_, _<_, zero-le}
-use native.Mathlib.Nat.{le-refl, le-trans}
+use native.Mathlib.Nat.{le-refl}
 use native.Mathlib.Omega.{arith}
 use borrow.Author.Needs.{needs}
 use borrow.Author.Tests.{eqb-false, ne-eqb, ltb-false, le-ltb}
 use lib.Dec.{eqb}
-use lib.ListN.{length, take, drop}
+use lib.ListN.{length}
 use lib.Seq.{slice}
-use Rattle.quantity.specs.Rules.{firstOf, outcome, follow, refused}
+use Rattle.quantity.specs.Rules.{firstOf}
 use Rattle.quantity.proofs.Refusing.{pass, passes}
 use Rattle.quantity.proofs.Tests.{neither}
 use Rattle.level.proofs.Answer.{level-rises}
@@ -23,8 +23,10 @@ use Rattle.event.proofs.Places.{first-place, end-place}
 use Rattle.event.proofs.Whole.{peak-inside}
 use Rattle.decades.specs.Decades.{energies}
 use Rattle.ledger.specs.declared.Day.{Day}
-use Rattle.admission.specs.Checks.{Offering}
-use Rattle.accuracy.specs.Unbroken.{runFirst, runEnd, unbrokenEvent, checksBy, admittedBy, offeredUnbroken, OnlyRaised, RaisedLaw}
+use Rattle.admission.specs.Checks.{Offering, dayChecksBy}
+use Rattle.offering.specs.Offer.{admittedBy, unlessRefused}
+use Rattle.accuracy.specs.Unbroken.{runFirst, runEnd, unbrokenEvent, offeredUnbroken, OnlyRaised, RaisedLaw}
+use Rattle.accuracy.proofs.Lists.{part-energy}
 use Rattle.accuracy.proofs.Unbroken.{run-near, run-from, run-within}
 
 -- the run lies in the stretch
@@ -49,60 +51,39 @@ run-inside (c ∷ cs) =
     (sym (run-near s some last (omega (arith, run-from s some)) (omega arith)) ∙ end .from .after last (omega arith) (omega (arith, run-within s some))) in
     record { from = omega (arith, earlier); to = omega (arith, later) }
 
--- a part of a list has at most the energy of a part that it lies in
-
-drop-less : (i j : ℕ) (s : List ℕ) → i ≤ j → energies (drop j s) ≤ energies (drop i s)
-unfolding energies
-drop-less zero zero s h = le-refl _
-drop-less zero (suc j) [] h = le-refl _
-drop-less zero (suc j) (c ∷ cs) h = omega (arith, drop-less zero j cs zero-le)
-drop-less (suc i) zero s h = absurd (omega arith)
-drop-less (suc i) (suc j) [] h = le-refl _
-drop-less (suc i) (suc j) (c ∷ cs) h = drop-less i j cs (omega arith)
-
-take-less : (a i j : ℕ) (s : List ℕ) → i ≤ j → energies (slice a i s) ≤ energies (slice a j s)
-unfolding energies
-take-less zero zero j s h = zero-le
-take-less zero (suc i) zero s h = absurd (omega arith)
-take-less zero (suc i) (suc j) [] h = le-refl _
-take-less zero (suc i) (suc j) (c ∷ cs) h = omega (arith, take-less zero i j cs (omega arith))
-take-less (suc a) zero j s h = zero-le
-take-less (suc a) (suc i) zero s h = absurd (omega arith)
-take-less (suc a) (suc i) (suc j) [] h = le-refl _
-take-less (suc a) (suc i) (suc j) (c ∷ cs) h = take-less a i j cs (omega arith)
-
+-- so it has at most the energy of the stretch
 run-energy : (s : List ℕ) → energies (slice (runFirst s) (runEnd s) s) ≤ energies (slice (stretchFirst s) (stretchEnd s) s)
 run-energy s =
     let r = run-inside s in
-    le-trans (drop-less (stretchFirst s) (runFirst s) (take (runEnd s) s) (r .from)) (take-less (stretchFirst s) (runEnd s) (stretchEnd s) s (r .to))
+    part-energy s (r .from) (r .to)
 
 -- the rules 7 and 8 pass by the run where they pass by the stretch, and all others are the same
 module _ (day : Day) (o : Offering) where
-  then-passes : firstOf (checksBy (eventOf (o .samples)) day o) ≡ 0 → firstOf (checksBy (unbrokenEvent (o .samples)) day o) ≡ 0
+  then-passes : firstOf (dayChecksBy (eventOf (o .samples)) day o) ≡ 0 → firstOf (dayChecksBy (unbrokenEvent (o .samples)) day o) ≡ 0
   then-passes h =
       let s = o .samples in
       let n = length s in
       let start = o .recording .start .0 in
       let r = run-inside s in
-      let p = pass (checksBy (eventOf s) day o) (search needs) h in
+      let p = pass (dayChecksBy (eventOf s) day o) (search needs) h in
       let edge = neither (eqb (stretchFirst s) 0) (eqb (stretchEnd s) n) (p .1 .1 .1 .1 .1 .1 .0) in
       let first = eqb-false (stretchFirst s) 0 (edge .0) in
       let end = eqb-false (stretchEnd s) n (edge .1) in
       let within = end-place (near (highest s)) s .from .within in
       let inside : touchesEdge (runFirst s) (runEnd s) n ≡ false = rw (ne-eqb (runFirst s) 0 (omega (arith, first, r .from)), ne-eqb (runEnd s) n (omega (arith, end, r .to, within))) in
       let after = le-ltb (start + runFirst s) (day .end .0) (omega (arith, r .from, ltb-false (start + stretchFirst s) (day .end .0) (p .1 .1 .1 .1 .1 .1 .1 .0))) in
-      sym (passes (checksBy (unbrokenEvent s) day o) (p .0, (p .1 .0, (p .1 .1 .0, (p .1 .1 .1 .0, (p .1 .1 .1 .1 .0, (p .1 .1 .1 .1 .1 .0, (inside, (after, p .1 .1 .1 .1 .1 .1 .1 .1)))))))))
+      sym (passes (dayChecksBy (unbrokenEvent s) day o) (p .0, (p .1 .0, (p .1 .1 .0, (p .1 .1 .1 .0, (p .1 .1 .1 .1 .0, (p .1 .1 .1 .1 .1 .0, (inside, (after, p .1 .1 .1 .1 .1 .1 .1 .1)))))))))
 
 pub raised-law : RaisedLaw
-raised-law day o = by-number (firstOf (checksBy (eventOf s) day o)) refl
+raised-law day o = by-number (firstOf (dayChecksBy (eventOf s) day o)) refl
   where
     s : List ℕ
     s = o .samples
 
-    both : firstOf (checksBy (unbrokenEvent s) day o) ≡ 0 → OnlyRaised (admittedBy (eventOf s) day o .answer) (offeredUnbroken day o .answer)
+    both : firstOf (dayChecksBy (unbrokenEvent s) day o) ≡ 0 → OnlyRaised (admittedBy (eventOf s) day o .answer) (offeredUnbroken day o .answer)
     both h = rw h (refl, level-rises 0 (samplesASecond (day .settings .rate)) (rate-positive (day .settings .rate)) (run-energy s))
 
-    by-number : (n : ℕ) → firstOf (checksBy (eventOf s) day o) ≡ n
-        → OnlyRaised (follow (outcome n (admittedBy (eventOf s) day o)) (λ k. record { day = day; answer = refused k }) (λ next. next) .answer) (offeredUnbroken day o .answer)
+    by-number : (n : ℕ) → firstOf (dayChecksBy (eventOf s) day o) ≡ n
+        → OnlyRaised (unlessRefused n day (admittedBy (eventOf s) day o) .answer) (offeredUnbroken day o .answer)
     by-number zero h = both (then-passes day o h)
     by-number (suc n) h = tt

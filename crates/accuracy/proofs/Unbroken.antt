@@ -1,13 +1,14 @@
 -- A window without dips has the event that it had by the unbroken run, and only such a window has; so its offer gives what it gave.
-use mathlib.Core.Path.{_≡_, refl, sym, ap, _∙_}
-use mathlib.Core.Bool.{Bool, true, false, not}
+use mathlib.Core.Path.{_≡_, refl, ap, _∙_}
+use mathlib.Core.Bool.{true, not}
 use mathlib.Core.List.{List, [], _∷_}
 use Prim.Native.Nat.{ℕ, _+_, _-_, _≤_, _<_}
 use native.Mathlib.Omega.{arith}
-use borrow.Author.Tests.{leb-true, leb-false}
+use borrow.Author.Tests.{leb-true, leb-false, not-false}
 use lib.Dec.{leb}
 use lib.ListN.{length, getD, take, drop, length-drop}
 use lib.Seq.{length-take-le, getD-take, getD-drop}
+use Rattle.quantity.specs.Rules.{firstOf}
 use Rattle.quantity.proofs.Tests.{test}
 use Rattle.event.specs.Window.{highest, firstPlace, peakOf}
 use Rattle.event.specs.Stretch.{near, stretchFirst, stretchEnd}
@@ -16,15 +17,11 @@ use Rattle.event.specs.declared.Event.{Event}
 use Rattle.event.proofs.Places.{first-place, end-place, the-first, the-end, peaks}
 use Rattle.event.proofs.Whole.{peak-inside}
 use Rattle.ledger.specs.declared.Day.{Day}
-use Rattle.admission.specs.Checks.{Offering}
-use Rattle.offering.specs.Offer.{offered}
+use Rattle.admission.specs.Checks.{Offering, dayChecksBy}
+use Rattle.offering.specs.Offer.{admittedBy, unlessRefused, offered}
 use Rattle.accuracy.specs.Tally.{Call, offering, closing}
 use Rattle.accuracy.specs.Terminal.{dayAfterCalls, dayAfterCallsBy}
-use Rattle.accuracy.specs.Unbroken.{far, runFirst, runEnd, unbrokenEvent, offeredWith, offeredUnbroken, NoDips, NoneDips, UnbrokenLaw}
-
-not-false : (b : Bool) → not b ≡ false → b ≡ true
-not-false true h = refl
-not-false false h = sym h
+use Rattle.accuracy.specs.Unbroken.{far, runFirst, runEnd, unbrokenEvent, offeredUnbroken, NoDips, NoneDips, UnbrokenLaw}
 
 -- a window with a sample
 module _ (s : List ℕ) (some : 0 < length s) where
@@ -100,7 +97,7 @@ only-event (c ∷ cs) same =
     λ k l h. run-near (c ∷ cs) (omega arith) k (omega (arith, first)) (omega (arith, end))
 
 same-offer : (day : Day) (o : Offering) → NoDips (o .samples) → offered day o ≡ offeredUnbroken day o
-same-offer day o none = ap (λ v. offeredWith v day o) (same-event (o .samples) none)
+same-offer day o none = ap (λ v. unlessRefused (firstOf (dayChecksBy v day o)) day (admittedBy v day o)) (same-event (o .samples) none)
 
 same-day : (day : Day) (calls : List Call) → NoneDips calls → dayAfterCalls day calls ≡ dayAfterCallsBy offeredUnbroken day calls
 same-day day [] none = refl
@@ -111,7 +108,6 @@ same-day day (closing before after ∷ cs) none = same-day day cs none
 pub unbroken-law : UnbrokenLaw
 unbroken-law =
     record {
-      byEvent = λ day o. refl;
       sameEvent = λ s. (same-event s, only-event s);
       sameOffer = same-offer;
       sameDay = same-day;

@@ -5,21 +5,17 @@ use mathlib.Core.Bool.{Bool, true, not}
 use mathlib.Core.Logic.{_↔_}
 use mathlib.Core.List.{List, [], _∷_}
 use Prim.Native.Nat.{ℕ, _+_, _≤_, _<_}
-use lib.ListN.{length, getD, take, drop}
-use lib.Seq.{slice}
-use Rattle.quantity.specs.Limits.{highestSample}
-use Rattle.quantity.specs.Rules.{Rule, firstOf, Outcome, refused, given, outcome, follow}
-use Rattle.level.specs.Level.{levelOf, NoHigher}
-use Rattle.clock.specs.Clock.{countWrong, samplesASecond}
-use Rattle.event.specs.Window.{highest, firstPlace, peakOf, anyAbove}
+use lib.ListN.{getD, take, drop}
+use Rattle.quantity.specs.Rules.{firstOf, Outcome, refused, given}
+use Rattle.level.specs.Level.{NoHigher}
+use Rattle.event.specs.Window.{highest, firstPlace, peakOf}
 use Rattle.event.specs.Stretch.{near, endPlace, stretchFirst, stretchEnd}
 use Rattle.event.specs.Event.{eventOf}
 use Rattle.event.specs.declared.Event.{Event}
-use Rattle.decades.specs.Decades.{energies}
-use Rattle.ledger.specs.Day.{periodOf, Answered}
+use Rattle.ledger.specs.Day.{Answered}
 use Rattle.ledger.specs.declared.Day.{Day}
-use Rattle.admission.specs.Checks.{Offering, checksOf, inDaytime, isUnbooked, usedUp}
-use Rattle.offering.specs.Offer.{Accepted, entered, offered}
+use Rattle.admission.specs.Checks.{Offering, dayChecksBy}
+use Rattle.offering.specs.Offer.{Accepted, admittedBy, unlessRefused, offered}
 use Rattle.accuracy.specs.Tally.{Call, offering, closing}
 use Rattle.accuracy.specs.Terminal.{dayAfterCalls, dayAfterCallsBy}
 
@@ -42,32 +38,9 @@ unbrokenEvent s =
       stretch = record { first = runFirst s; end = runEnd s };
     }
 
--- an offer by an event v of its window, whatever stretch that has: the rules, S, LAE and the day after it
-abbrev pub checksBy : Event → Day → Offering → List Rule
-checksBy v day o =
-    let r = o .recording in
-    let s = o .samples in
-    let rate = day .settings .rate in
-    checksOf rate (countWrong rate (length s)) (anyAbove highestSample s) (length s) v r
-    (isUnbooked day (r .class))
-    (day .end .0)
-    (usedUp (periodOf day (inDaytime (day .settings) r v)) (r .class))
-
-abbrev pub admittedBy : Event → Day → Offering → Answered Accepted
-admittedBy v day o =
-    let S = energies (slice (v .stretch .first) (v .stretch .end) (o .samples)) in
-    record {
-      day = entered day (o .recording) v S;
-      answer = given (record { exposure = levelOf 0 (samplesASecond (day .settings .rate)) S; lmax = v .lmax .0 });
-    }
-
-abbrev pub offeredWith : Event → Day → Offering → Answered Accepted
-offeredWith v day o =
-    follow (outcome (firstOf (checksBy v day o)) (admittedBy v day o)) (λ n. record { day = day; answer = refused n }) (λ next. next)
-
--- the terminal of before
+-- the terminal of before: rules, S, LAE and the day after an offer by that event
 abbrev pub offeredUnbroken : Day → Offering → Answered Accepted
-offeredUnbroken day o = offeredWith (unbrokenEvent (o .samples)) day o
+offeredUnbroken day o = let v = unbrokenEvent (o .samples) in unlessRefused (firstOf (dayChecksBy v day o)) day (admittedBy v day o)
 
 -- a window without dips: all samples between the first and the last that are at least Lmax - 1000 are so
 abbrev pub NoDips : List ℕ → Type 0
@@ -79,10 +52,9 @@ NoneDips [] = Unit
 NoneDips (offering o ∷ cs) = NoDips (o .samples) × NoneDips cs
 NoneDips (closing before after ∷ cs) = NoneDips cs
 
--- The terminal differs from that of before in the event alone; it has the same event for the windows without dips, and for no others; so on any day such a
--- window gives the same answer and leaves the same day, and a list of calls with no other windows leaves the same day, on which every closing is the same.
+-- The event is that of before for the windows without dips, and for no others; so on any day such a window gives the same answer and leaves the same day, and a
+-- list of calls with no other windows leaves the same day, on which every closing is the same.
 pub record UnbrokenLaw : Type 0 where
-  pub byEvent : (day : Day) (o : Offering) → offered day o ≡ offeredWith (eventOf (o .samples)) day o
   pub sameEvent : (s : List ℕ) → NoDips s ↔ (eventOf s ≡ unbrokenEvent s)
   pub sameOffer : (day : Day) (o : Offering) → NoDips (o .samples) → offered day o ≡ offeredUnbroken day o
   pub sameDay : (day : Day) (calls : List Call) → NoneDips calls → dayAfterCalls day calls ≡ dayAfterCallsBy offeredUnbroken day calls
