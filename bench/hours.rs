@@ -1,5 +1,5 @@
 // The energy of a clock hour, by the proved library and by the same sum formed plainly from the same words, each called through the same signature.
-use crate::{day_of_offers, full_day, proved, seconds};
+use crate::{day_of_offers, full_day, seconds, Proved};
 use std::hint::black_box;
 
 extern "C" {
@@ -24,13 +24,13 @@ unsafe extern "C" fn plain(day: *const u32, hour: u32, energy: *mut u64) {
     *energy.add(1) = (sum >> 64) as u64;
 }
 
-fn found(program: Program, day: &proved::Day, hour: u32) -> [u64; 2] {
+fn found(program: Program, day: &Proved, hour: u32) -> [u64; 2] {
     let mut energy = [0; 2];
     unsafe { program(day.0.as_ptr(), hour, energy.as_mut_ptr()) };
     energy
 }
 
-fn all(day: &proved::Day, hours: &[u32], program: Program) {
+fn all(day: &Proved, hours: &[u32], program: Program) {
     for &hour in hours {
         black_box(found(program, black_box(day), black_box(hour)));
     }
@@ -38,7 +38,7 @@ fn all(day: &proved::Day, hours: &[u32], program: Program) {
 
 /// The hours of the day of 2000 fly-overs, of which all but the last have some, and hours that there are not.
 pub fn time() {
-    let day = full_day::<proved::Day>(&day_of_offers());
+    let day = full_day::<Proved>(&day_of_offers());
     println!("| hours | the energy of an hour, proved | plain |");
     println!("|---|---|---|");
     for (name, first) in [("0 to 23", 0), ("24 to 47", 24)] {

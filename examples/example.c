@@ -1,6 +1,6 @@
 /* Opens a day, offers two fly-overs, asks for the energy of their hours, closes it, forms a year of such days and its verdict, holds the tower's log against
- * the fly-overs, opens the next day, with a fly-over at midnight, and asks for the level at thrusts and for the correction at angles. Built and run by
- * examples/run_c. */
+ * the fly-overs, opens the next day, with a fly-over at midnight, closes a quiet day, whose level is negative, and asks for the level at thrusts and for the
+ * correction at angles. Built and run by examples/run_c. */
 #include "moatburdock.h"
 
 #include <inttypes.h>
@@ -12,6 +12,20 @@ static int failed(const char *call, uint8_t answer) {
     return answer != 0;
 }
 
+/* The text of a level that has a sign, in dB. */
+struct text {
+    char of[16];
+};
+
+static struct text text_of(int32_t level) {
+    struct text text;
+    if (level == MOATBURDOCK_BELOW_SCALE)
+        snprintf(text.of, sizeof text.of, "below scale");
+    else
+        snprintf(text.of, sizeof text.of, "%.2f dB", level / 100.0);
+    return text;
+}
+
 /* The energy of the clock hours of the two fly-overs, in two halves, and as a double in units of a sample of 0 dB. */
 static void energies_of_hours(const uint32_t day[MOATBURDOCK_DAY_WORDS]) {
     const uint32_t asked[] = {12, 23};
@@ -21,6 +35,36 @@ static void energies_of_hours(const uint32_t day[MOATBURDOCK_DAY_WORDS]) {
         const double samples = ((double)energy[0] + 18446744073709551616.0 * (double)energy[1]) / 1e9;
         printf("hour %" PRIu32 ": energy %" PRIu64 " and %" PRIu64 " times 2^64, as of %.0f samples of 0 dB\n", asked[i], energy[0], energy[1], samples);
     }
+}
+
+/* The year's level of some days, and the verdict on land of class I with it. */
+static int quiet_verdict(const uint64_t *records, size_t count) {
+    int32_t yearly = 0, margin = 0;
+    uint8_t finding = 0;
+    if (failed("the year", moatburdock_year_mean(records, count, &yearly))
+        || failed("the verdict", moatburdock_verdict(1, yearly, false, MOATBURDOCK_NOTHING, &finding, &margin)))
+        return 1;
+    printf("of %zu quiet days: YLdn %s, finding %u, ", count, text_of(yearly).of, finding);
+    if (margin == MOATBURDOCK_NO_MARGIN)
+        printf("no margin\n");
+    else
+        printf("margin %d hundredths\n", margin);
+    return 0;
+}
+
+/* A day at a gliding field, with forty samples a second and one faint fly-over: its mean alone, and with a day on which nothing flies, which adds nothing and
+ * counts as a day. */
+static int quiet_days(void) {
+    const uint16_t daytime[] = {1}, night[] = {0}, samples[] = {300, 550, 1560, 420, 300};
+    uint32_t day[MOATBURDOCK_DAY_WORDS] = {0}, lmax = 0, counts[3] = {0}, highest_by_class[MOATBURDOCK_CLASSES] = {0};
+    int32_t exposure = 0;
+    uint64_t records[2] = {0, MOATBURDOCK_RECORD(MOATBURDOCK_BELOW_SCALE, 1)};
+    if (failed("opening", moatburdock_open_day(day, 40, 864000, 3167999, -24000, daytime, 1, night, 1))
+        || failed("the offer", moatburdock_offer(day, 1440000, 0, 4, false, 0, samples, 5, &exposure, &lmax))
+        || failed("closing", moatburdock_close_day(day, 9400, 9400, &records[0], counts, highest_by_class)))
+        return 1;
+    printf("a quiet day: LAE %s, Ldn %s\n", text_of(exposure).of, text_of(MOATBURDOCK_LEVEL_OF(records[0])).of);
+    return quiet_verdict(records, 1) || quiet_verdict(records, 2);
 }
 
 /* The level of an engine at thrusts in kN, from levels in dB that were measured at four of them: between two rows, at the last one and behind it. */
@@ -70,10 +114,11 @@ int main(void) {
     if (failed("opening", moatburdock_open_day(day, 10, 216000, 791999, -6000, daytime, 2, night, 2)))
         return 1;
     for (uint8_t i = 0; i < 2; i++) {
-        uint32_t exposure = 0, lmax = 0;
+        int32_t exposure = 0;
+        uint32_t lmax = 0;
         if (failed("the offer", moatburdock_offer(day, starts[i], i, 30, false, 6000, samples, 5, &exposure, &lmax)))
             return 1;
-        printf("fly-over %d: LAE %u.%02u dB, Lmax %u.%02u dB\n", i + 1, exposure / 100, exposure % 100, lmax / 100, lmax % 100);
+        printf("fly-over %d: LAE %s, Lmax %u.%02u dB\n", i + 1, text_of(exposure).of, lmax / 100, lmax % 100);
     }
 
     energies_of_hours(day);
@@ -82,8 +127,8 @@ int main(void) {
     uint32_t counts[3] = {0}, highest_by_class[MOATBURDOCK_CLASSES] = {0};
     if (failed("closing", moatburdock_close_day(day, 9400, 9400, &record, counts, highest_by_class)))
         return 1;
-    uint32_t ldn = MOATBURDOCK_LEVEL_OF(record);
-    printf("the day: Ldn %u.%02u dB by method %u, %u event by day, %u by night\n", ldn / 100, ldn % 100, MOATBURDOCK_METHOD_OF(record), counts[0], counts[1]);
+    printf("the day: Ldn %s by method %u, %u event by day, %u by night\n", text_of(MOATBURDOCK_LEVEL_OF(record)).of, MOATBURDOCK_METHOD_OF(record), counts[0],
+           counts[1]);
     for (int class = 0; class < MOATBURDOCK_CLASSES; class++)
         if (highest_by_class[class] != MOATBURDOCK_NOTHING)
             printf("class %d: highest Lmax %u.%02u dB\n", class, highest_by_class[class] / 100, highest_by_class[class] % 100);
@@ -93,7 +138,7 @@ int main(void) {
         year[i] = record;
     if (failed("rewriting", moatburdock_rewrite_record(year, 365, 364, MOATBURDOCK_RECORD(6000, 1))))
         return 1;
-    uint32_t mean = 0;
+    int32_t mean = 0;
     if (failed("the year", moatburdock_year_mean(year, 365, &mean)))
         return 1;
 
@@ -102,7 +147,7 @@ int main(void) {
     if (failed("the code", moatburdock_land_class('R', '1', &land_class))
         || failed("the verdict", moatburdock_verdict(land_class, mean, true, counts[2], &finding, &margin)))
         return 1;
-    printf("the year: YLdn %u.%02u dB; class %u, finding %u, margin %d hundredths\n", mean / 100, mean % 100, land_class, finding, margin);
+    printf("the year: YLdn %s; class %u, finding %u, margin %d hundredths\n", text_of(mean).of, land_class, finding, margin);
 
     /* The tower's log against the peaks of the two fly-overs, with five seconds of tolerance. */
     const int32_t movements[] = {431990, 432000, 863960}, peaks[] = {432001, 863998};
@@ -119,7 +164,8 @@ int main(void) {
 
     /* The next day is opened with the end of this one. The same fly-over, its start counted from the new midnight, belongs to the day before; one that
      * begins at that end is accepted. */
-    uint32_t next_day[MOATBURDOCK_DAY_WORDS] = {0}, exposure = 0, lmax = 0;
+    uint32_t next_day[MOATBURDOCK_DAY_WORDS] = {0}, lmax = 0;
+    int32_t exposure = 0;
     const int32_t end = moatburdock_end_for_next_day(day);
     if (failed("opening the next day", moatburdock_open_day(next_day, 10, 216000, 791999, end, daytime, 2, night, 2)))
         return 1;
@@ -127,9 +173,9 @@ int main(void) {
     printf("the fly-over at midnight again: refusal %u\n", moatburdock_offer(next_day, -3, 1, 30, false, 6000, samples, 5, &exposure, &lmax));
     if (failed("the offer", moatburdock_offer(next_day, 0, 1, 30, false, 6000, samples, 5, &exposure, &lmax)))
         return 1;
-    printf("a fly-over from that end on: LAE %u.%02u dB\n", exposure / 100, exposure % 100);
+    printf("a fly-over from that end on: LAE %s\n", text_of(exposure).of);
 
     printf("a day of 30 samples a second: refusal %u\n", moatburdock_open_day(day, 30, 216000, 791999, -18000, daytime, 2, night, 2));
     printf("a second fly-over at noon: refusal %u\n", moatburdock_offer(day, 432000, 0, 30, false, 6000, samples, 5, &exposure, &lmax));
-    return levels_at_thrusts() || corrections_at_angles();
+    return quiet_days() || levels_at_thrusts() || corrections_at_angles();
 }

@@ -1,15 +1,17 @@
 // Opens a day, offers two fly-overs, asks for the energy of their hours, closes it, forms a year of such days, holds the tower's log against the fly-overs,
-// opens the next day, with a fly-over at midnight, and asks for the level at thrusts and for the correction at angles. Built and run by examples/run_rust.
+// opens the next day, with a fly-over at midnight, closes a quiet day, whose level is negative, and asks for the level at thrusts and for the correction at
+// angles. Built and run by examples/run_rust.
 #[link(name = "moatburdock", kind = "static")]
 extern "C" {
     fn moatburdock_open_day(day: *mut u32, rate: u32, first: u32, last: u32, end: i32, daytime: *const u16, classes: usize, night: *const u16,
         others: usize) -> u8;
     fn moatburdock_end_for_next_day(day: *const u32) -> i32;
     fn moatburdock_offer(day: *mut u32, start: i32, class: u8, wind: u16, wet: bool, background: u32, samples: *const u16, count: usize,
-        exposure: *mut u32, lmax: *mut u32) -> u8;
+        exposure: *mut i32, lmax: *mut u32) -> u8;
     fn moatburdock_hour_energy(day: *const u32, hour: u32, energy: *mut u64);
     fn moatburdock_close_day(day: *const u32, before: u32, after: u32, record: *mut u64, counts: *mut u32, highest_by_class: *mut u32) -> u8;
-    fn moatburdock_year_mean(records: *const u64, count: usize, level: *mut u32) -> u8;
+    fn moatburdock_year_mean(records: *const u64, count: usize, level: *mut i32) -> u8;
+    fn moatburdock_verdict(class: u8, yearly: i32, sensitive: bool, lmax: u32, finding: *mut u8, margin: *mut i32) -> u8;
     fn moatburdock_pair_movements(movements: *const i32, movement_count: usize, peaks: *const i32, peak_count: usize, tolerance: u32,
         movement_marks: *mut u16, movement_mark_count: usize, peak_marks: *mut u16, peak_mark_count: usize, pair_count: *mut u16) -> u8;
     fn moatburdock_level_at_thrust(thrusts: *const f64, thrust_count: usize, levels: *const f64, level_count: usize, thrust: f64, level: *mut f64) -> u8;
@@ -22,6 +24,52 @@ struct Refused(u8);
 
 fn checked(answer: u8) -> Result<(), Refused> {
     if answer == 0 { Ok(()) } else { Err(Refused(answer)) }
+}
+
+/// LAE, Ldn or a mean in hundredths of a decibel; none is below scale.
+#[derive(Clone, Copy)]
+struct Level(Option<i32>);
+
+impl Level {
+    fn from(number: i32) -> Level {
+        Level((number != i32::MIN).then_some(number))
+    }
+
+    fn number(self) -> i32 {
+        self.0.unwrap_or(i32::MIN)
+    }
+}
+
+impl std::fmt::Display for Level {
+    fn fmt(&self, f: &mut std::fmt::Formatter) -> std::fmt::Result {
+        match self.0 {
+            Some(level) => write!(f, "{:.2} dB", level as f64 / 100.0),
+            None => write!(f, "below scale"),
+        }
+    }
+}
+
+/// A day's record has its level in the lower 32 bits, and its method in the upper ones.
+fn record_of(level: Level, method: u64) -> u64 {
+    method << 32 | level.number() as u32 as u64
+}
+
+fn level_of(record: u64) -> Level {
+    Level::from(record as u32 as i32)
+}
+
+/// The mean of 1 to 366 days.
+fn year_mean(records: &[u64]) -> Result<Level, Refused> {
+    let mut level = 0;
+    checked(unsafe { moatburdock_year_mean(records.as_ptr(), records.len(), &mut level) })?;
+    Ok(Level::from(level))
+}
+
+/// The margin of a year's level on land of a class; there is none in class IV and below scale.
+fn margin(class: u8, yearly: Level) -> Result<Option<i32>, Refused> {
+    let (mut finding, mut margin) = (0, 0);
+    checked(unsafe { moatburdock_verdict(class, yearly.number(), false, u32::MAX, &mut finding, &mut margin) })?;
+    Ok((margin != i32::MAX).then_some(margin))
 }
 
 /// The settings of a terminal: samples a second, and the first and the last daytime tick.
@@ -49,12 +97,12 @@ impl Day {
     }
 
     /// LAE and Lmax of a fly-over.
-    fn offer(&mut self, start: i32, class: u8, samples: &[u16]) -> Result<(u32, u32), Refused> {
+    fn offer(&mut self, start: i32, class: u8, background: u32, samples: &[u16]) -> Result<(Level, u32), Refused> {
         let (mut exposure, mut lmax) = (0, 0);
         checked(unsafe {
-            moatburdock_offer(self.0.as_mut_ptr(), start, class, 30, false, 6000, samples.as_ptr(), samples.len(), &mut exposure, &mut lmax)
+            moatburdock_offer(self.0.as_mut_ptr(), start, class, 30, false, background, samples.as_ptr(), samples.len(), &mut exposure, &mut lmax)
         })?;
-        Ok((exposure, lmax))
+        Ok((Level::from(exposure), lmax))
     }
 
     /// The energy of a clock hour; a sample of 0 dB has 10^9.
@@ -80,6 +128,21 @@ fn paired(movements: &[i32], peaks: &[i32], tolerance: u32) -> Result<Vec<Option
             movement_marks.len(), peak_marks.as_mut_ptr(), peak_marks.len(), &mut pairs)
     })?;
     Ok(movement_marks.into_iter().map(|mark| (mark != 0).then_some(mark)).collect())
+}
+
+/// A day at a gliding field, with forty samples a second and one faint fly-over: its mean alone, and with a day on which nothing flies, which adds nothing and
+/// counts as a day.
+fn show_quiet_days() -> Result<(), Refused> {
+    let mut day = Day::open(Settings(40, 864000, 3167999), None, &[1], &[0])?;
+    let (exposure, _) = day.offer(1440000, 0, 0, &[300, 550, 1560, 420, 300])?;
+    let (record, _) = day.close()?;
+    println!("a quiet day: LAE {}, Ldn {}", exposure, level_of(record));
+    let records = [record, record_of(Level(None), 1)];
+    for count in [1, 2] {
+        let yearly = year_mean(&records[..count])?;
+        println!("of {} quiet days: YLdn {}, margin {:?}", count, yearly, margin(1, yearly)?);
+    }
+    Ok(())
 }
 
 /// The level in dB at a thrust in kN, from those measured at several thrusts.
@@ -144,21 +207,19 @@ fn main() -> Result<(), Refused> {
     let settings = Settings(10, 216000, 791999);
     let mut day = Day::open(settings, None, &[1], &[1])?;
     for start in [432000, 863997] {
-        let (exposure, lmax) = day.offer(start, 0, &samples)?;
-        println!("a fly-over at {}: LAE {:.2} dB, Lmax {:.2} dB", start, exposure as f64 / 100.0, lmax as f64 / 100.0);
+        let (exposure, lmax) = day.offer(start, 0, 6000, &samples)?;
+        println!("a fly-over at {}: LAE {}, Lmax {:.2} dB", start, exposure, lmax as f64 / 100.0);
     }
     for hour in [12, 23] {
         let energy = day.hour_energy(hour);
         println!("hour {}: energy {}, an exposure of {:.2} dB", hour, energy, 10.0 * (energy as f64 / 1e9 / 10.0).log10());
     }
     let (record, highest_by_class) = day.close()?;
-    println!("the day: Ldn {:.2} dB by method {}", record as u32 as f64 / 100.0, record >> 32);
+    println!("the day: Ldn {} by method {}", level_of(record), record >> 32);
     for (class, level) in highest_by_class.iter().enumerate().filter_map(|(class, level)| level.map(|level| (class, level))) {
         println!("class {}: highest Lmax {:.2} dB", class, level as f64 / 100.0);
     }
-    let mut mean = 0;
-    checked(unsafe { moatburdock_year_mean([record; 365].as_ptr(), 365, &mut mean) })?;
-    println!("a year of such days: YLdn {:.2} dB", mean as f64 / 100.0);
+    println!("a year of such days: YLdn {}", year_mean(&[record; 365])?);
     println!("the tower's movements and their peaks: {:?}", paired(&[431990, 432000, 863960], &[432001, 863998], 50)?);
     if let Err(Refused(number)) = paired(&[432000, 431990], &[432001, 863998], 50) {
         println!("movements that are not in order: refusal {}", number);
@@ -166,16 +227,17 @@ fn main() -> Result<(), Refused> {
     // The same fly-over, its start counted from the new midnight, belongs to the day before; one that begins at the end of that day is accepted.
     let mut next_day = Day::open(settings, Some(&day), &[1], &[1])?;
     println!("the next day is opened with the end {}", day.end_for_next_day());
-    if let Err(Refused(number)) = next_day.offer(-3, 0, &samples) {
+    if let Err(Refused(number)) = next_day.offer(-3, 0, 6000, &samples) {
         println!("the fly-over at midnight again: refusal {}", number);
     }
-    println!("a fly-over from that end on: LAE {:.2} dB", next_day.offer(0, 0, &samples)?.0 as f64 / 100.0);
+    println!("a fly-over from that end on: LAE {}", next_day.offer(0, 0, 6000, &samples)?.0);
     if let Err(Refused(number)) = Day::open(Settings(20, 432000, 1728000), None, &[1], &[1]) {
         println!("a last daytime tick behind the day: refusal {}", number);
     }
-    if let Err(Refused(number)) = day.offer(432000, 0, &samples) {
+    if let Err(Refused(number)) = day.offer(432000, 0, 6000, &samples) {
         println!("a second fly-over at noon: refusal {}", number);
     }
+    show_quiet_days()?;
     show_levels()?;
     show_corrections()
 }

@@ -1,4 +1,5 @@
-/* Reads a day file in odd pieces, as a slow transport delivers it, and prints the line of each event and of the day. Built and run by examples/run_c. */
+/* Reads a day file in odd pieces, as a slow transport delivers it, and prints the line of each event and of the day; then on standard error how many events
+ * there are, the lowest and the highest LAE, and Ldn. Built and run by examples/run_c. */
 #include "moatburdock.h"
 
 #include <stdio.h>
@@ -6,6 +7,13 @@
 
 /* Pieces of these sizes come one after the other. */
 static const size_t pieces[] = {1, 3, 1021, 7, 389, 2};
+
+static void show_level(const char *name, int32_t level) {
+    if (level == MOATBURDOCK_BELOW_SCALE)
+        fprintf(stderr, ", %s below scale", name);
+    else
+        fprintf(stderr, ", %s %.2f dB", name, level / 100.0);
+}
 
 int main(int argc, char **argv) {
     const char *name = argc > 1 ? argv[1] : "samples/example.day";
@@ -20,6 +28,8 @@ int main(int argc, char **argv) {
     size_t count = 0, turn = 0;
     bool ended = false;
     unsigned events = 0, accepted = 0;
+    int32_t lowest = INT32_MAX, highest = MOATBURDOCK_BELOW_SCALE, ldn = MOATBURDOCK_BELOW_SCALE;
+    bool closed = false;
     uint8_t came;
 
     moatburdock_open_reader(reader);
@@ -32,7 +42,16 @@ int main(int argc, char **argv) {
         fwrite(line, 1, line_size, stdout);
         if (came == MOATBURDOCK_EVENT) {
             events++;
-            accepted += numbers[0] == 0;
+            if (numbers[0] == 0) {
+                int32_t exposure = MOATBURDOCK_SIGNED(numbers[2]);
+                accepted++;
+                lowest = exposure < lowest ? exposure : lowest;
+                highest = exposure > highest ? exposure : highest;
+            }
+        }
+        if (came == MOATBURDOCK_CLOSED && numbers[0] == 0) {
+            closed = true;
+            ldn = MOATBURDOCK_SIGNED(numbers[1]);
         }
 
         count -= used;
@@ -47,7 +66,14 @@ int main(int argc, char **argv) {
         }
     } while (came < MOATBURDOCK_CLOSED);
 
-    fprintf(stderr, "%s: %u events, %u accepted\n", name, events, accepted);
+    fprintf(stderr, "%s: %u events, %u accepted", name, events, accepted);
+    if (accepted > 0) {
+        show_level("lowest LAE", lowest);
+        show_level("highest LAE", highest);
+    }
+    if (closed)
+        show_level("Ldn", ldn);
+    fprintf(stderr, "\n");
     fclose(file);
     return 0;
 }

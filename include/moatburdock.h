@@ -4,8 +4,9 @@
  * nothing but memcpy and memset: all that it reads and writes is what it is lent here. An offer takes 14 kB of stack, and a step of the reader, which has a
  * room for the longest window of its own, 71 kB.
  *
- * Levels are hundredths of a decibel, wind tenths of m/s. Times are ticks after local midnight, negative before it, and a tick is one sample: a tenth, a
- * twentieth or a fortieth of a second, by the rate with which a day is opened. A fly-over belongs to the day of its peak, whole. In
+ * Levels are hundredths of a decibel, wind tenths of m/s. Samples, backgrounds, calibration levels and Lmax are 0 or more. LAE, Ldn and the means have a sign:
+ * their scale begins at -5000, that is -50 dB, and whatever is less is below scale. Times are ticks after local midnight, negative before it, and a tick is one
+ * sample: a tenth, a twentieth or a fortieth of a second, by the rate with which a day is opened. A fly-over belongs to the day of its peak, whole. In
  * moatburdock_level_at_thrust and moatburdock_correction_at_angle alone there are doubles: levels and corrections in dB, thrusts in kN, angles in degrees.
  *
  * Every function but moatburdock_end_for_next_day, moatburdock_hour_energy and the two of the reader answers 0, or the number of the refusal. A refused call
@@ -34,15 +35,23 @@ extern "C" {
 /* The most classes of a book, and the levels of a closing by class. */
 #define MOATBURDOCK_CLASSES 16
 
-/* Stands for 'below scale' where a level is given or taken, and for no Lmax. */
+/* Stands for 'below scale', less than -5000, where a level with a sign is given or taken. It is under every level, so that comparisons of levels come out
+ * right. Its opposite does not fit in 32 bits: test for it before the absolute value of a level is taken. */
+#define MOATBURDOCK_BELOW_SCALE INT32_MIN
+
+/* Stands for no Lmax, and for nothing else. Compare no level with a sign with it: in C a level of -1 would be equal to it. */
 #define MOATBURDOCK_NOTHING UINT32_MAX
 
 /* Stands for no margin: class IV, or a year below scale. */
 #define MOATBURDOCK_NO_MARGIN INT32_MAX
 
-/* A day's record in one number: its level in the lower 32 bits, its method, 1 or 2, in the upper ones. */
+/* The number with a sign that the lower 32 bits of a number are, two's complement. */
+#define MOATBURDOCK_SIGNED(number) ((int32_t)(uint32_t)(number))
+
+/* A day's record in one number: its level, or MOATBURDOCK_BELOW_SCALE, in the lower 32 bits, two's complement, and its method, 1 or 2, in the upper ones. In
+ * records that were kept from before levels had a sign, those below scale have UINT32_MAX in the lower bits, which is a level of -1 here. */
 #define MOATBURDOCK_RECORD(level, method) ((uint64_t)(method) << 32 | (uint32_t)(level))
-#define MOATBURDOCK_LEVEL_OF(record) ((uint32_t)(record))
+#define MOATBURDOCK_LEVEL_OF(record) MOATBURDOCK_SIGNED(record)
 #define MOATBURDOCK_METHOD_OF(record) ((uint32_t)((record) >> 32))
 
 /* Why a call is refused. */
@@ -61,7 +70,7 @@ enum moatburdock_refusal {
     MOATBURDOCK_CALIBRATION_DRIFT,      /* the calibration levels differ by more than 50 */
     MOATBURDOCK_NO_METHOD,              /* neither method's conditions hold */
     MOATBURDOCK_DAY_COUNT,              /* a wrong number of days, or a place that is not there */
-    MOATBURDOCK_RECORD_LEVEL_TOO_HIGH,  /* a day's or a year's level above 20000 */
+    MOATBURDOCK_RECORD_LEVEL_OUTSIDE,   /* a day's or a year's level above 20000 or under -5000; below scale is not refused */
     MOATBURDOCK_LAND_UNKNOWN,           /* no class 1 to 4, or no such land code */
     MOATBURDOCK_FILE_FAULT,             /* a day file ends early, the count of its settings is not 1 or that of its calibration not 2, or an event has more
                                            than 600 seconds of samples */
@@ -102,10 +111,11 @@ uint8_t moatburdock_open_day(uint32_t day[MOATBURDOCK_DAY_WORDS], uint32_t rate,
 
 /* Offers a fly-over: a window of A-levels, one a tick, that begins at start. Its peak is in the day; the window may begin before midnight and end after the
  * day. Its stretch runs from the first to the last sample that is at most 1000, that is 10 dB, below Lmax, both in; samples that dip lower in between belong to
- * it and add their energy. Accepted, it is added to the day, and the exposure level LAE of its stretch (or MOATBURDOCK_NOTHING) and Lmax are given. Refusals 1
- * to 9, the first in their order that holds. */
+ * it and add their energy. Accepted, it is added to the day, and the exposure level LAE of its stretch and Lmax are given. What is accepted has an Lmax of 1500
+ * or more, so that LAE is never below scale: at 10, 20 and 40 samples a second it is 500, 198 and -103 at the least. Refusals 1 to 9, the first in their order
+ * that holds. */
 uint8_t moatburdock_offer(uint32_t day[MOATBURDOCK_DAY_WORDS], int32_t start, uint8_t flight_class, uint16_t wind, bool wet, uint32_t background,
-                          const uint16_t *samples, size_t sample_count, uint32_t *exposure, uint32_t *lmax);
+                          const uint16_t *samples, size_t sample_count, int32_t *exposure, uint32_t *lmax);
 
 /* The end to open the next day with: that of the day's last accepted stretch, in ticks after the next midnight, or -600 times the rate where no fly-over is
  * accepted. Never refused: what is answered is the end itself. The day is read and not changed. With it no stretch of one day overlaps a stretch of the next,
@@ -129,22 +139,24 @@ void moatburdock_hour_energy(const uint32_t day[MOATBURDOCK_DAY_WORDS], uint32_t
 
 /* Closes a day, with the calibration levels before and after it: gives the day's record (Ldn and its method), in counts the events by day, those by
  * night, and the highest Lmax (or MOATBURDOCK_NOTHING), and the highest Lmax of each class (or MOATBURDOCK_NOTHING; so for every class beyond the book).
- * The day is read and not changed; more offers may follow. Refusals 11, then 12. */
+ * Ldn is below scale on a day without fly-overs, and where they come to less than -50 dB. The day is read and not changed; more offers may follow. Refusals
+ * 11, then 12. */
 uint8_t moatburdock_close_day(const uint32_t day[MOATBURDOCK_DAY_WORDS], uint32_t before, uint32_t after, uint64_t *day_record, uint32_t counts[3],
                               uint32_t highest_by_class[MOATBURDOCK_CLASSES]);
 
-/* The mean of a week, of exactly 7 records, and of a year, of 1 to 366 (formulas 6-5 and 6-6): a level, or MOATBURDOCK_NOTHING. A record below scale
- * adds nothing and counts as a day. Refusals 13, then 14. */
-uint8_t moatburdock_week_mean(const uint64_t *records, size_t record_count, uint32_t *level);
-uint8_t moatburdock_year_mean(const uint64_t *records, size_t record_count, uint32_t *level);
+/* The mean of a week, of exactly 7 records, and of a year, of 1 to 366 (formulas 6-5 and 6-6): a level, or MOATBURDOCK_BELOW_SCALE. A record below scale
+ * adds nothing and counts as a day, so that a mean may be below scale though some of its days are not. Refusals 13, then 14. */
+uint8_t moatburdock_week_mean(const uint64_t *records, size_t record_count, int32_t *level);
+uint8_t moatburdock_year_mean(const uint64_t *records, size_t record_count, int32_t *level);
 
 /* Reads the record at a place of the year, counted from 0, or rewrites it; the other records keep their values. Refusals 13, then 14. */
 uint8_t moatburdock_read_record(const uint64_t *records, size_t record_count, size_t place, uint64_t *day_record);
 uint8_t moatburdock_rewrite_record(uint64_t *records, size_t record_count, size_t place, uint64_t new_record);
 
-/* The verdict on land of a class, 1 to 4, for a year's level, a sensitive building or none, and the highest Lmax (each level may be MOATBURDOCK_NOTHING):
- * what it names, and the margin, limit less level. Refusals 15, 14, 4 in this order. */
-uint8_t moatburdock_verdict(uint8_t land_class, uint32_t yearly, bool sensitive, uint32_t lmax, uint8_t *finding, int32_t *margin);
+/* The verdict on land of a class, 1 to 4, for a year's level (or MOATBURDOCK_BELOW_SCALE), a sensitive building or none, and the highest Lmax (or
+ * MOATBURDOCK_NOTHING): what it names, and the margin (or MOATBURDOCK_NO_MARGIN). The margin is limit less level, from -14300 to 11700, and negative where the
+ * level is over its limit. Refusals 15, 14, 4 in this order. */
+uint8_t moatburdock_verdict(uint8_t land_class, int32_t yearly, bool sensitive, uint32_t lmax, uint8_t *finding, int32_t *margin);
 
 /* The class of a land code, a capital letter and a digit as ASCII. Refusal 15. */
 uint8_t moatburdock_land_class(uint8_t letter, uint8_t digit, uint8_t *land_class);
@@ -194,13 +206,14 @@ uint8_t moatburdock_correction_at_angle(double angle, uint8_t *position, double 
 #define MOATBURDOCK_STEP_NUMBERS 6
 #define MOATBURDOCK_LINE_BYTES 64
 
-/* What came of a step, with its numbers. The first is 0 or the number of a refusal; those that are not named are 0. */
+/* What came of a step, with its numbers. The first is 0 or the number of a refusal; those that are not named are 0. LAE and Ldn are in 32 bits, two's
+ * complement: MOATBURDOCK_SIGNED of the number is the level. */
 enum moatburdock_came {
     MOATBURDOCK_MORE = 0,               /* the window holds too little, and the file goes on: nothing is used up */
     MOATBURDOCK_STARTED,                /* what stands before the events is read */
-    MOATBURDOCK_EVENT,                  /* 0 or refusal 1 to 9, the event's number from 1; where it is accepted LAE (or MOATBURDOCK_NOTHING), Lmax */
-    MOATBURDOCK_CLOSED,                 /* 0 or refusal 11 or 12; where it is closed Ldn (or MOATBURDOCK_NOTHING), the method, the events by day, those by
-                                           night, the highest Lmax (or MOATBURDOCK_NOTHING). That of each class comes of moatburdock_close_day on the
+    MOATBURDOCK_EVENT,                  /* 0 or refusal 1 to 9, the event's number from 1; where it is accepted LAE, Lmax */
+    MOATBURDOCK_CLOSED,                 /* 0 or refusal 11 or 12; where it is closed Ldn (or MOATBURDOCK_BELOW_SCALE), the method, the events by day, those
+                                           by night, the highest Lmax (or MOATBURDOCK_NOTHING). That of each class comes of moatburdock_close_day on the
                                            reader's day, with the calibration levels of the file */
     MOATBURDOCK_FAULT,                  /* refusal 10, 16, 17 or 18; the reader's day is that of the events before the fault */
     MOATBURDOCK_DONE                    /* the day was closed or a fault met at an earlier step */
@@ -211,8 +224,8 @@ void moatburdock_open_reader(uint32_t reader[MOATBURDOCK_READER_WORDS]);
 
 /* A step of a reader. The window holds the bytes of the file that are not used up yet, as many as there are at hand; ended says that the file ends with
  * them. Answers what came, and gives how many bytes of the window are used up, the numbers of what came, and the bytes of its line as the day program
- * prints it, with its end: none for MORE, STARTED and DONE. The rest of the line stays as it was. However the file is cut, steps up to the first
- * answer of MOATBURDOCK_CLOSED or more give the lines of the whole file. */
+ * prints it, with its end: none for MORE, STARTED and DONE. A negative level is '-' and its digits there, and '-' alone is below scale, or no Lmax. The rest of
+ * the line stays as it was. However the file is cut, steps up to the first answer of MOATBURDOCK_CLOSED or more give the lines of the whole file. */
 uint8_t moatburdock_read_step(uint32_t reader[MOATBURDOCK_READER_WORDS], const uint8_t *window, size_t window_size, bool ended, size_t *used,
                               uint32_t numbers[MOATBURDOCK_STEP_NUMBERS], uint8_t line[MOATBURDOCK_LINE_BYTES], size_t *line_size);
 

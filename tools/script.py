@@ -4,8 +4,9 @@ thrusts.py and angles.py.
     LABEL: CALL WORDS = ANSWER      answers that are right are separated by '|', and one that is plausible and wrong stands behind ', not'
     TEXT                            a line without ':' is a heading
 
-In a call 8000*3 stands for 8000 8000 8000, and -6000 for that number in 32 bits, two's complement. The words of interpolate and degrees are f64
-numbers, each by its bits in 16 hexadecimal digits. An hour is answered by its energy in two halves of 64 bits, the lower one first."""
+In a call 8000*3 stands for 8000 8000 8000, -6000 for that number in 32 bits, two's complement, and '-' alone for below scale or no Lmax. The words of
+interpolate and degrees are f64 numbers, each by its bits in 16 hexadecimal digits. An hour is answered by its energy in two halves of 64 bits, the lower
+one first."""
 import os
 import re
 from collections import namedtuple
@@ -22,7 +23,7 @@ CRATES = os.path.join(os.path.dirname(os.path.dirname(os.path.abspath(__file__))
 WRONG_ON_PURPOSE = 'wrong on purpose'
 
 # What '-' stands for where a number is wanted.
-NOTHING = 2 ** 32 - 1
+NOTHING = 2 ** 31
 
 Call = namedtuple('Call', 'label name numbers slash stated answers')
 
@@ -33,8 +34,8 @@ def expanded(text):
 
 
 def signed(n):
-    """the number of 32 bits, two's complement"""
-    return n if n < 2 ** 31 else n - 2 ** 32
+    """the number of 32 bits, two's complement; None stays"""
+    return n if n is None or n < 2 ** 31 else n - 2 ** 32
 
 
 def number_of(word, name):
@@ -94,17 +95,18 @@ class Replay:
         return self.day.highest_answers(*call.numbers, [7] * 16)
 
     def week(self, call):
-        return noise.mean_answers(call.numbers, len(call.numbers) == 7)
+        return noise.mean_answers(list(map(signed, call.numbers)), len(call.numbers) == 7)
 
     def year(self, call):
-        return noise.mean_answers(call.numbers, 1 <= len(call.numbers) <= 366)
+        return noise.mean_answers(list(map(signed, call.numbers)), 1 <= len(call.numbers) <= 366)
 
     def rewrite(self, call):
         place, new, read, *levels = call.numbers
-        return [noise.rewriting_answer(levels, place, new, read)]
+        return [noise.rewriting_answer(map(signed, levels), place, signed(new), read)]
 
     def verdict(self, call):
-        return [noise.verdict_answer(*call.numbers)]
+        klass, yearly, *rest = call.numbers
+        return [noise.verdict_answer(klass, signed(yearly), *rest)]
 
     def land(self, call):
         return [noise.land_answer(*call.numbers)]

@@ -17,3 +17,4 @@ pub mod Hours
 pub mod Midnight
 pub mod Unbroken
 pub mod Raised
+pub mod QuietFields

@@ -10,3 +10,4 @@ pub mod NextDay
 pub mod Hours
 pub mod Midnight
 pub mod Unbroken
+pub mod QuietFields

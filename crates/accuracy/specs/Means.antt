@@ -5,6 +5,7 @@ use mathlib.Core.Bool.{Bool, true, false, cond}
 use mathlib.Core.Logic.{_⊎_}
 use mathlib.Core.List.{List, [], _∷_, _++_}
 use Prim.Native.Nat.{ℕ, _*_, _/_}
+use lib.IntN.{ℤ}
 use lib.ListN.{length}
 use Rattle.quantity.specs.Answers.{Reading, level, below-scale}
 use Rattle.quantity.specs.Lists.{Each}
@@ -52,9 +53,9 @@ abbrev pub samplesOf : List ClosedDay → List Sample
 samplesOf [] = []
 samplesOf (d ∷ ds) = daySamples d ++ samplesOf ds
 
--- what the promise asks of each day: a level by method one
+-- what the promise asks of each day: a level on the scale, so of -5000 or more, by method one
 pub record Measured (d : ClosedDay) : Type 0 where
-  pub ldn : ℕ
+  pub ldn : ℤ
   pub onScale : d .closing .ldn ≡ level ldn
   pub byMethodOne : d .closing .method ≡ 1
 
@@ -85,7 +86,7 @@ MeanClaim =
 -- beside the claim: quiet days may stand among the days where the mean is on the scale
 unfoldable pub QuietLaw : Type 0
 QuietLaw =
-    (K : ℕ) (days : List ClosedDay) → Each (λ d. Measured d ⊎ Quiet d) days → (r : ℕ)
+    (K : ℕ) (days : List ClosedDay) → Each (λ d. Measured d ⊎ Quiet d) days → (r : ℤ)
     → (weekMeanOf (readings (recordsOf days)) ≡ given (level r) → MeanAccurate K days (level r))
     × (yearMeanOf (readings (recordsOf days)) ≡ given (level r) → MeanAccurate K days (level r))
 

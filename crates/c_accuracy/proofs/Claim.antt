@@ -7,6 +7,7 @@ use native.Mathlib.Omega.{arith}
 use borrow.Author.Needs.{needs}
 use borrow.Author.Tests.{ltb-false, not-false}
 use lib.Dec.{ltb, lit<, lit≤}
+use lib.IntN.{ℤ}
 use lib.ListN.{length, replicate}
 use Rattle.quantity.specs.Answers.{Reading, level, reading, highestReading}
 use Rattle.quantity.specs.Lent.{leaves}
@@ -16,7 +17,7 @@ use Rattle.quantity.specs.declared.HighestLevel.the-variants as highests
 use Rattle.quantity.proofs.Outcomes.{refuses}
 use Rattle.quantity.proofs.Refusing.{pass}
 use Rattle.quantity.proofs.Tests.{neither, test}
-use Rattle.level.specs.Level.{levelOf}
+use Rattle.level.specs.Level.{largestLevel}
 use Rattle.ledger.specs.Book.{mostClasses, sumOf}
 use Rattle.ledger.specs.Day.{openedDay, levelsByClass}
 use Rattle.admission.specs.Checks.{Offering, dayChecks}
@@ -27,7 +28,7 @@ use Rattle.method.specs.Method.{methodOneHolds, methodBy, countsOf}
 use Rattle.closing.specs.Formula.{formulaBy}
 use Rattle.closing.specs.Close.{Closing, closeRules, closingOf, closed, classesGiven}
 use Rattle.closing.proofs.Answers.{divisor-positive}
-use Rattle.mean.specs.Mean.{isCountWrong, anyTooHigh, sumOfPowers, meanRules, meanOf}
+use Rattle.mean.specs.Mean.{isCountWrong, anyOutside, sumOfPowers, meanRules, meanOf}
 use Rattle.mean.specs.Records.{readings, DayReading}
 use Rattle.accuracy.specs.Tally.{Tally, started, tallyOf, offering, closing}
 use Rattle.accuracy.specs.Terminal.{dayAfterCalls}
@@ -66,7 +67,7 @@ close-seen K t before after lent (given c) levels h e d =
     let r = record-law (c .ldn) (c .method) (h .0) in
     rw (r .0, r .1, told-highest (c .highest) (h .1), e) d
 
-mean-seen : (lent : ℕ) (r : Outcome Reading) → Plain Told r → meanSeen (leaves lent r levelNumber) ≡ r
+mean-seen : (lent : ℤ) (r : Outcome Reading) → Plain Told r → meanSeen (leaves lent r levelNumber) ≡ r
 mean-seen lent (refused n) h = refuses n h _
 mean-seen lent (given r) h = rw (told-level r h)
 
@@ -115,11 +116,11 @@ plain-closing d r before after = go (firstOf (closeRules before after (countsOf 
 
 plain-mean : (fewest most : ℕ) (days : List Reading) → 0 < fewest → most ≤ 366 → Plain Told (meanOf fewest most days)
 unfolding meanOf
-plain-mean fewest most days some few = go (firstOf (meanRules (isCountWrong fewest most (length days)) (anyTooHigh days))) refl
+plain-mean fewest most days some few = go (firstOf (meanRules (isCountWrong fewest most (length days)) (anyOutside days))) refl
   where
-    go : (n : ℕ) → firstOf (meanRules (isCountWrong fewest most (length days)) (anyTooHigh days)) ≡ n → Plain Told (outcome n (levelOf 0 (length days) (sumOfPowers days)))
+    go : (n : ℕ) → firstOf (meanRules (isCountWrong fewest most (length days)) (anyOutside days)) ≡ n → Plain Told (outcome n (largestLevel 0 (length days) (sumOfPowers days)))
     go zero h =
-        let p = pass (meanRules (isCountWrong fewest most (length days)) (anyTooHigh days)) (search needs) h in
+        let p = pass (meanRules (isCountWrong fewest most (length days)) (anyOutside days)) (search needs) h in
         let right = neither (ltb (length days) fewest) (ltb most (length days)) (p .0) in
         told-mean days (omega (arith, ltb-false (length days) fewest (right .0))) (omega (arith, ltb-false most (length days) (right .1))) (p .1 .0)
     go (suc n) h = omega arith
@@ -168,7 +169,7 @@ wrote-levels (d ∷ ds) [] h = absurd h
 wrote-levels (d ∷ ds) (n ∷ ns) h = ap₂ _∷_ (wrote-level d n (h .0)) (wrote-levels ds ns (h .1))
 
 -- means
-mean-demanded : (fewest most K : ℕ) (days : List ClosedDay) (records : List ℕ) (lent : ℕ) → AllWrote days records → 0 < fewest → most ≤ 366
+mean-demanded : (fewest most K : ℕ) (days : List ClosedDay) (records : List ℕ) (lent : ℤ) → AllWrote days records → 0 < fewest → most ≤ 366
     → MeanDemanded fewest most K days (meanOf fewest most (readings (recordsOf days)))
     → MeanDemanded fewest most K days (meanSeen (leaves lent (meanOf fewest most (recordLevels records)) levelNumber))
 mean-demanded fewest most K days records lent h some few =

@@ -1,6 +1,7 @@
 -- Lists of calls through C on the words of a day: what they leave in the words.
 use mathlib.Core.List.{List, [], _∷_}
 use Prim.Native.Nat.{ℕ}
+use lib.IntN.{ℤ}
 use Rattle.ledger.specs.Day.{Opening}
 use Rattle.admission.specs.Checks.{Offering}
 use Rattle.accuracy.specs.Tally.{Call, offering, closing}
@@ -8,7 +9,7 @@ use Rattle.c_interface.specs.Calls.{OfferLent, CloseLent, openLeaves, offerLeav
 
 -- a call after opening: its arguments, and what the numbers held that it was lent to write
 pub data CCall : Type 0 where
-  offer : Offering → (exposure lmax : ℕ) → CCall
+  offer : Offering → (exposure : ℤ) (lmax : ℕ) → CCall
   close : (before after : ℕ) → CloseLent → CCall
 
 -- the call that the plain tally is fed
@@ -17,7 +18,7 @@ callOf (offer o exposure lmax) = offering o
 callOf (close before after lent) = closing before after
 
 -- what an offer is lent
-abbrev pub lentTo : List ℕ → (exposure lmax : ℕ) → OfferLent
+abbrev pub lentTo : List ℕ → (exposure : ℤ) (lmax : ℕ) → OfferLent
 lentTo day exposure lmax = record { day = day; exposure = exposure; lmax = lmax }
 
 -- the words after a call; those of a day that is closed are read alone

@@ -3,6 +3,7 @@ use mathlib.Core.Path.{_≡_}
 use mathlib.Core.List.{List, [], _∷_, map}
 use Prim.Native.Nat.{ℕ}
 use mathlib.Core.Option.{Option}
+use lib.IntN.{ℤ}
 use lib.ListN.{getD}
 use Rattle.quantity.specs.Answers.{Reading}
 use Rattle.quantity.specs.Instants.{ticksOf}
@@ -40,7 +41,7 @@ closeSeen l =
 abbrev pub classesSeen : Left CloseLent → List (Option ℕ)
 classesSeen l = classLevelsFrom (l .lent .highestByClass)
 
-abbrev pub meanSeen : Left ℕ → Outcome Reading
+abbrev pub meanSeen : Left ℤ → Outcome Reading
 meanSeen l = outcome (l .answer) (levelFrom (l .lent))
 
 -- for every words, all settings and every book that open, and every list of calls: the words hold the day of the list
@@ -93,7 +94,7 @@ AllWrote (d ∷ ds) (n ∷ ns) = Wrote d n × AllWrote ds ns
 -- the mean of such records, of a week and of a year
 unfoldable pub CMeanClaim : Type 0
 CMeanClaim =
-    (K : ℕ) (days : List ClosedDay) → Each Measured days → (records : List ℕ) → AllWrote days records → (level : ℕ)
+    (K : ℕ) (days : List ClosedDay) → Each Measured days → (records : List ℕ) → AllWrote days records → (level : ℤ)
     → MeanDemanded 7 7 K days (meanSeen (weekLeaves level records))
     × MeanDemanded 1 366 K days (meanSeen (yearLeaves level records))
 

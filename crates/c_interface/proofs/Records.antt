@@ -3,6 +3,7 @@ use mathlib.Core.Path.{_≡_, refl, ap, _∙_}
 use mathlib.Core.List.{List, [], _∷_}
 use Prim.Native.Nat.{ℕ, zero, suc, _+_, _≤_, _<_}
 use native.Mathlib.Omega.{arith}
+use lib.IntN.{pos}
 use lib.ListN.{length, take, getD, length-take}
 use Rattle.quantity.specs.Answers.{Reading, level}
 use Rattle.decades.specs.Sums.{Readable}
@@ -17,7 +18,7 @@ unfolding recordLevels
 length-levels [] = refl
 length-levels (n ∷ rest) = ap suc (length-levels rest)
 
-level-at : (records : List ℕ) (place : ℕ) → recordLevel (getD records place 0) ≡ getD (recordLevels records) place (level 0)
+level-at : (records : List ℕ) (place : ℕ) → recordLevel (getD records place 0) ≡ getD (recordLevels records) place (level (pos 0))
 unfolding recordLevels
 level-at [] place = refl
 level-at (n ∷ rest) zero = refl

@@ -5,26 +5,33 @@ use mathlib.Core.Option.{Option, some, none}
 use Prim.Native.Nat.{ℕ, _+_, _*_, _/_, _%_, _<_}
 use native.Mathlib.Omega.{arith}
 use lib.ListN.{getD}
-use borrow.Author.Tests.{ne-eqb}
+use borrow.Author.Tests.{ne-eqb, lt-ltb}
+use lib.IntN.{pos, negsuc}
+use mir.Syntax.{w32}
+use mir.Val.{SFits}
 use Rattle.quantity.specs.Answers.{Reading, level, below-scale}
+use Rattle.quantity.specs.Numbers.{signed}
+use Rattle.quantity.proofs.Numbers.{signed-bits, bits-fit}
 use Rattle.limbs.specs.Value.{value, limbsOf}
-use Rattle.c_interface.specs.Numbers.{levelFrom, levelNumber, highestFrom, highestNumber, upper, half, energyNumbers, energyFrom, Told, ToldHighest, RecordLaw}
+use Rattle.c_interface.specs.Numbers.{levelFrom, levelNumber, levelBits, highestFrom, highestNumber, upper, half, energyNumbers, energyFrom, Told, ToldHighest, RecordLaw}
 
 -- a level that is told is read from its number
 pub told-level : (r : Reading) → Told r → levelFrom (levelNumber r) ≡ r
-told-level (level c) h = rw (ne-eqb c 4294967295 (λ e. omega arith))
+told-level (level (pos n)) h = refl
+told-level (level (negsuc n)) h = rw (lt-ltb n 2147483647 h)
 told-level below-scale h = refl
 
-below-upper : (r : Reading) → Told r → levelNumber r < upper
-below-upper (level c) h = omega arith
-below-upper below-scale h = omega arith
+number-fits : (r : Reading) → Told r → SFits w32 (levelNumber r)
+number-fits (level r) h = record { sfits = omega arith }
+number-fits below-scale h = record { sfits = omega arith }
 
 pub record-law : RecordLaw
 record-law r method h =
-    let small = below-upper r h in
-    let lower : (levelNumber r + upper * method) % upper ≡ levelNumber r = omega arith in
-    let higher : (levelNumber r + upper * method) / upper ≡ method = omega arith in
-    (ap levelFrom lower ∙ told-level r h, higher)
+    let fits = number-fits r h in
+    let small : levelBits r < upper = bits-fit (levelNumber r) fits in
+    let lower : (levelBits r + upper * method) % upper ≡ levelBits r = omega arith in
+    let higher : (levelBits r + upper * method) / upper ≡ method = omega arith in
+    (ap (λ (n : ℕ). levelFrom (signed n)) lower ∙ ap levelFrom (signed-bits (levelNumber r) fits) ∙ told-level r h, higher)
 
 -- so is the highest Lmax
 pub told-highest : (h : Option ℕ) → ToldHighest h → highestFrom (highestNumber h) ≡ h

@@ -8,12 +8,13 @@ use lib.ListN.{length, getD, set}
 use Rattle.quantity.specs.Rules.{Outcome, outcome, Rule, firstOf}
 use Rattle.quantity.specs.Lent.{Left, leaves}
 use Rattle.quantity.specs.Instants.{instantOf, afterMidnight}
+use Rattle.quantity.specs.Scale.{isReadingOutside}
 use Rattle.limbs.specs.Value.{value}
 use Rattle.ledger.specs.Day.{Opening, opened, endForNextDay, hourEnergy}
 use Rattle.admission.specs.Checks.{Offering}
 use Rattle.offering.specs.Offer.{offered}
 use Rattle.closing.specs.Close.{Closed, dayClosed}
-use Rattle.mean.specs.Mean.{weekMeanOf, yearMeanOf, isTooHigh}
+use Rattle.mean.specs.Mean.{weekMeanOf, yearMeanOf}
 use Rattle.mean.specs.Records.{placeRule}
 use Rattle.pairing.specs.Pairing.{Marks}
 use Rattle.pairing.specs.Answers.{Answered}
@@ -37,7 +38,7 @@ offeringAs start class wind wet background samples =
 -- an offer: the words of the day afterwards, LAE and Lmax
 pub record OfferLent : Type 0 where
   pub day : List ℕ
-  pub exposure : ℕ
+  pub exposure : ℤ
   pub lmax : ℕ
 
 abbrev pub offerLeaves : OfferLent → Offering → Left OfferLent
@@ -73,10 +74,10 @@ abbrev pub closeLeaves : CloseLent → (day : List ℕ) (before after : ℕ) →
 closeLeaves lent day before after = closedLeaves lent (dayClosed (dayFrom day) before after)
 
 -- a mean: its level
-abbrev pub weekLeaves : ℕ → List ℕ → Left ℕ
+abbrev pub weekLeaves : ℤ → List ℕ → Left ℤ
 weekLeaves level records = leaves level (weekMeanOf (recordLevels records)) levelNumber
 
-abbrev pub yearLeaves : ℕ → List ℕ → Left ℕ
+abbrev pub yearLeaves : ℤ → List ℕ → Left ℤ
 yearLeaves level records = leaves level (yearMeanOf (recordLevels records)) levelNumber
 
 -- reading a record, and rewriting one: 13 for the place, then 14 for the new level
@@ -86,7 +87,7 @@ readLeaves dayRecord records place =
 
 abbrev pub recordRewriteRules : List ℕ → ℕ → ℕ → List Rule
 recordRewriteRules records place new =
-    placeRule (length records) place ∷ record { number = 14; refuses = isTooHigh (recordLevel new) } ∷ []
+    placeRule (length records) place ∷ record { number = 14; refuses = isReadingOutside (recordLevel new) } ∷ []
 
 abbrev pub rewriteLeaves : List ℕ → ℕ → ℕ → Left (List ℕ)
 rewriteLeaves records place new =
@@ -97,7 +98,7 @@ pub record VerdictLent : Type 0 where
   pub finding : ℕ
   pub margin : ℤ
 
-abbrev pub verdictLeaves : VerdictLent → (class yearly : ℕ) → Bool → ℕ → Left VerdictLent
+abbrev pub verdictLeaves : VerdictLent → (class : ℕ) (yearly : ℤ) → Bool → ℕ → Left VerdictLent
 verdictLeaves lent class yearly sensitive lmax =
     leaves lent (verdictOf class (levelFrom yearly) sensitive (highestFrom lmax))
     (λ v. record { finding = findingNumber (v .finding); margin = marginNumber (v .margin) })

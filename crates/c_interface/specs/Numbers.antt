@@ -5,21 +5,31 @@ use mathlib.Core.Option.{Option, some, none}
 use mathlib.Core.Path.{_≡_}
 use Prim.Native.Nat.{ℕ, _+_, _*_, _/_, _%_, _<_}
 use lib.Dec.{eqb}
-use lib.IntN.{ℤ, pos}
+use lib.IntN.{ℤ, pos, negℤ}
 use lib.ListN.{getD}
+use lib.Signed.{ltZ, mag}
 use Rattle.quantity.specs.Answers.{Reading, level, below-scale}
+use Rattle.quantity.specs.Numbers.{signed, bitsOf}
 use Rattle.land.specs.Verdict.{Finding, over, no-limit}
 
--- the number that stands for 'below scale', and for no Lmax
+-- W-210: levels are numbers with a sign. The lowest number of 32 bits stands for 'below scale': it is under every level.
+abbrev pub belowScale : ℤ
+belowScale = negℤ (pos 2147483648)
+
+abbrev pub levelFrom : ℤ → Reading
+levelFrom r = cond (ltZ belowScale r) (level r) below-scale
+
+abbrev pub levelNumber : Reading → ℤ
+levelNumber (level r) = r
+levelNumber below-scale = belowScale
+
+-- the bits of that number, two's complement
+abbrev pub levelBits : Reading → ℕ
+levelBits r = bitsOf (levelNumber r)
+
+-- the number that stands for no Lmax
 abbrev pub nothing : ℕ
 nothing = 4294967295
-
-abbrev pub levelFrom : ℕ → Reading
-levelFrom n = cond (eqb n nothing) below-scale (level n)
-
-abbrev pub levelNumber : Reading → ℕ
-levelNumber (level c) = c
-levelNumber below-scale = nothing
 
 abbrev pub highestFrom : ℕ → Option ℕ
 highestFrom n = cond (eqb n nothing) none (some n)
@@ -49,19 +59,19 @@ energyNumbers S = S % half ∷ S / half ∷ []
 abbrev pub energyFrom : List ℕ → ℕ
 energyFrom numbers = getD numbers 0 0 + half * getD numbers 1 0
 
--- a day's answer in one number of 64 bits: its level in the lower half, its method in the upper one
+-- a day's answer in one number of 64 bits: the bits of its level in the lower half, its method in the upper one
 abbrev pub recordNumber : Reading → ℕ → ℕ
-recordNumber ldn method = levelNumber ldn + upper * method
+recordNumber ldn method = levelBits ldn + upper * method
 
 abbrev pub recordLevel : ℕ → Reading
-recordLevel n = levelFrom (n % upper)
+recordLevel n = levelFrom (signed (n % upper))
 
 abbrev pub recordMethod : ℕ → ℕ
 recordMethod n = n / upper
 
--- a level that is told from the number for 'below scale', as every level is that the library gives
+-- a level that 32 bits hold and that is told from the number for 'below scale', as every level is that the library gives; `mag` of -(n + 1) is n
 abbrev pub Told : Reading → Type 0
-Told (level c) = c < nothing
+Told (level r) = mag r < 2147483647
 Told below-scale = Unit
 
 abbrev pub ToldHighest : Option ℕ → Type 0

@@ -1,5 +1,5 @@
 // The entry points for C and Rust: on numbers, and with the day as 320 words that the caller lends. Each that can be refused answers 0 or the number of
-// the refusal, and a refused call leaves all that it was lent as it was. Levels are hundredths of a decibel; NOTHING stands for 'below scale' and for no Lmax.
+// the refusal, and a refused call leaves all that it was lent as it was. Levels are hundredths of a decibel; BELOW_SCALE stands for 'below scale', and NOTHING for no Lmax.
 ghost use mathlib.Core.Path.{_≡_};
 ghost use Prim.Native.Nat.{_+_, _*_, _<_, _≤_};
 ghost use Rattle.quantity.specs.Answers.{reading, methodNumber, highestReading};
@@ -12,6 +12,7 @@ ghost use Rattle.pairing.specs.Pairing.{instants};
 ghost use Rattle.c_interface.specs.Numbers.{
   levelFrom,
   levelNumber,
+  levelBits,
   highestFrom,
   highestNumber,
   classNumbers,
@@ -54,9 +55,13 @@ use quantity::Level;
 use quantity::Method;
 use quantity::Reading;
 use quantity::Refusal;
+use quantity::SignedLevel;
 use quantity::Tick;
 
-// What stands for 'below scale' and for no Lmax.
+// What stands for 'below scale': the lowest number of 32 bits, which is under every level.
+const BELOW_SCALE: i32 = -2147483648;
+
+// What stands for no Lmax.
 const NOTHING: u32 = 4294967295;
 
 // What stands for no margin.
@@ -65,22 +70,29 @@ const NO_MARGIN: i32 = 2147483647;
 // The upper 32 bits of a number of 64 begin here: the method of a record, and every second limb of an energy.
 const UPPER: u64 = 4294967296;
 
-fn level_from(n: u32) -> Reading
+fn level_from(n: i32) -> Reading
     ensures { λ r. ⌜ reading r ≡ levelFrom n ⌝ }
 {
-    if n == NOTHING {
-        return Reading::BelowScale;
+    if BELOW_SCALE < n {
+        return Reading::At(SignedLevel(n));
     }
-    Reading::At(Level(n))
+    Reading::BelowScale
 }
 
-pub fn level_number(level: Reading) -> u32
+fn level_number(level: Reading) -> i32
     ensures { λ r. ⌜ r ≡ levelNumber (reading level) ⌝ }
 {
     match level {
         Reading::At(at) => at.0,
-        Reading::BelowScale => NOTHING,
+        Reading::BelowScale => BELOW_SCALE,
     }
+}
+
+// The 32 bits of a level's number, as a record and a step of the reader hold it.
+pub fn level_bits(level: Reading) -> u32
+    ensures { λ r. ⌜ r ≡ levelBits (reading level) ⌝ }
+{
+    quantity::bits_of(level_number(level))
 }
 
 fn highest_from(n: u32) -> HighestLevel
@@ -120,14 +132,14 @@ fn class_numbers(levels: [ClassHighest; 16]) -> [u32; 16]
 fn record_level(day_record: u64) -> Reading
     ensures { λ r. ⌜ reading r ≡ recordLevel day_record ⌝ }
 {
-    level_from((day_record % UPPER) as u32)
+    level_from(quantity::signed_of((day_record % UPPER) as u32))
 }
 
 // The record of a day's answer.
 fn record_of(ldn: Reading, method: Method) -> u64
     ensures { λ r. ⌜ r ≡ recordNumber (reading ldn) (methodNumber method) ⌝ }
 {
-    level_number(ldn) as u64 + UPPER * (quantity::method_number(method) as u64)
+    level_bits(ldn) as u64 + UPPER * (quantity::method_number(method) as u64)
 }
 
 // Opens a day: the samples a second of its terminal, the first and the last daytime tick, the end of the previous day's last stretch in ticks after the new
@@ -172,7 +184,7 @@ pub extern "C" fn moatburdock_offer(
     wet: bool,
     background: u32,
     samples: &[u16],
-    exposure: &mut u32,
+    exposure: &mut i32,
     lmax: &mut u32,
 ) -> u8
     ensures { λ r.
@@ -290,18 +302,18 @@ fn mean_of(records: &[u64], fewest: usize, most: usize) -> MeanAnswer
 {
     let counted = mean::days_if_allowed(records.len(), fewest, most);
     let table = power::mantissas();
-    let mut sums = [0u64; 21];
-    let mut high = false;
+    let mut sums = [0u64; 26];
+    let mut outside = false;
     let mut i = 0;
     while i < counted {
-        high = mean::add_day(&table, &mut sums, high, record_level(records[i]));
+        outside = mean::add_day(&table, &mut sums, outside, record_level(records[i]));
         i += 1;
     }
-    mean::mean_of_total(&table, Total { sums, high }, counted)
+    mean::mean_of_total(&table, Total { sums, outside }, counted)
 }
 
 // Gives the level of a mean.
-fn give_mean(answer: MeanAnswer, level: &mut u32) -> u8
+fn give_mean(answer: MeanAnswer, level: &mut i32) -> u8
     ensures { λ r. ⌜ record { answer = r; lent = now (level .exit) } ≡ leaves (now (level .entry)) (meanOutcome answer) levelNumber ⌝ }
 {
     match answer {
@@ -315,7 +327,7 @@ fn give_mean(answer: MeanAnswer, level: &mut u32) -> u8
 
 // The mean of a week, of exactly 7 records.
 #[no_mangle]
-pub extern "C" fn moatburdock_week_mean(records: &[u64], level: &mut u32) -> u8
+pub extern "C" fn moatburdock_week_mean(records: &[u64], level: &mut i32) -> u8
     ensures { λ r. ⌜ record { answer = r; lent = now (level .exit) } ≡ weekLeaves (now (level .entry)) (now (records .entry)) ⌝ }
 {
     give_mean(mean_of(records, 7, 7), level)
@@ -323,7 +335,7 @@ pub extern "C" fn moatburdock_week_mean(records: &[u64], level: &mut u32) -> u8
 
 // The mean of a year, of 1 to 366 records.
 #[no_mangle]
-pub extern "C" fn moatburdock_year_mean(records: &[u64], level: &mut u32) -> u8
+pub extern "C" fn moatburdock_year_mean(records: &[u64], level: &mut i32) -> u8
     ensures { λ r. ⌜ record { answer = r; lent = now (level .exit) } ≡ yearLeaves (now (level .entry)) (now (records .entry)) ⌝ }
 {
     give_mean(mean_of(records, 1, 366), level)
@@ -354,8 +366,8 @@ pub extern "C" fn moatburdock_rewrite_record(records: &mut [u64], place: usize, 
     if records.len() <= place {
         return quantity::refusal_number(Refusal::DayCount);
     }
-    if mean::is_too_high(record_level(new)) {
-        return quantity::refusal_number(Refusal::RecordLevelTooHigh);
+    if quantity::is_reading_outside(record_level(new)) {
+        return quantity::refusal_number(Refusal::RecordLevelOutside);
     }
     records[place] = new;
     0
@@ -386,7 +398,7 @@ fn margin_number(margin: Margin) -> i32
 #[no_mangle]
 pub extern "C" fn moatburdock_verdict(
     class: u8,
-    yearly: u32,
+    yearly: i32,
     sensitive: bool,
     lmax: u32,
     finding: &mut u8,

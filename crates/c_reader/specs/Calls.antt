@@ -7,7 +7,7 @@ use Rattle.quantity.specs.Rules.{Outcome, refused, given}
 use Rattle.quantity.specs.Lent.{Left}
 use Rattle.offering.specs.Offer.{Accepted}
 use Rattle.closing.specs.Close.{Closing}
-use Rattle.c_interface.specs.Numbers.{levelNumber, highestNumber}
+use Rattle.c_interface.specs.Numbers.{levelBits, highestNumber}
 use Rattle.steps.specs.Machine.{Coming, more, started, answered, ends, nothing, lineFor, Next, stepOf}
 use Rattle.c_reader.specs.Words.{readerWords, readerFrom}
 
@@ -20,16 +20,16 @@ cameNumber (ends (given answer)) = 3
 cameNumber (ends (refused n)) = 4
 cameNumber nothing = 5
 
--- its six numbers: the first is 0 or the number of the refusal. Of an event: its number, LAE and Lmax
+-- its six numbers: the first is 0 or the number of the refusal. Of an event: its number, the bits of LAE, and Lmax
 abbrev pub eventNumbers : ℕ → Outcome Accepted → List ℕ
 eventNumbers i (refused n) = n ∷ i ∷ replicate 4 0
-eventNumbers i (given a) = 0 ∷ i ∷ levelNumber (a .exposure) ∷ a .lmax ∷ replicate 2 0
+eventNumbers i (given a) = 0 ∷ i ∷ levelBits (a .exposure) ∷ a .lmax ∷ replicate 2 0
 
--- of a closing: Ldn, the method, Nd', Nn' and the highest Lmax
+-- of a closing: the bits of Ldn, the method, Nd', Nn' and the highest Lmax
 abbrev pub closeNumbers : Outcome Closing → List ℕ
 closeNumbers (refused n) = n ∷ replicate 5 0
 closeNumbers (given c) =
-    0 ∷ levelNumber (c .ldn) ∷ c .method ∷ c .dayEvents ∷ c .nightEvents ∷ highestNumber (c .highest) ∷ []
+    0 ∷ levelBits (c .ldn) ∷ c .method ∷ c .dayEvents ∷ c .nightEvents ∷ highestNumber (c .highest) ∷ []
 
 abbrev pub numbersFor : Coming → List ℕ
 numbersFor more = replicate 6 0

@@ -147,7 +147,7 @@ fn event_numbers(number: u32, answer: OfferAnswer) -> [u32; 6]
         OfferAnswer::Accepted { exposure, lmax } => [
             0,
             number,
-            c_interface::level_number(exposure),
+            c_interface::level_bits(exposure),
             lmax.0,
             0,
             0,
@@ -167,7 +167,7 @@ fn close_numbers(answer: CloseAnswer) -> [u32; 6]
             let highest = closing.highest;
             [
                 0,
-                c_interface::level_number(ldn),
+                c_interface::level_bits(ldn),
                 quantity::method_number(method) as u32,
                 closing.day_events,
                 closing.night_events,

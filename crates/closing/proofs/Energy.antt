@@ -18,6 +18,9 @@ product-below j {s} {w} h g =
 sum-below : (j : ℕ) {a b : ℕ} → a < base ^ j → b < base ^ j → a + b < base ^ suc j
 sum-below j h g = rw (pow-suc base j) (omega arith)
 
+less-than-two : {b x y : ℕ} → x < b → y < b → x + y < 2 * b
+less-than-two h g = omega arith
+
 -- the six limbs of a number that is below base ^ 6
 six : {a : List ℕ} {k n : ℕ} → k ≡ 6 → a ≡ limbsOf k n → n < base ^ 6 → value a ≡ n
 six {a} {k} {n} l e h = ap value e ∙ ap (λ (i : ℕ). value (limbsOf i n)) l ∙ value-limbsOf-whole 6 n h
@@ -30,5 +33,7 @@ product-kept p a {q} {w} l k e h g d =
     (same ∙ mul-comm (value a) w, rw same below)
 
 pub sum-kept : (p r : List ℕ) {q : List ℕ} → length p ≡ 6 → value p < base ^ 5 → value r < base ^ 5 → q ≡ limbsOf (length p) (value p + value r)
-    → value q ≡ value p + value r
-sum-kept p r l h g d = six l d (sum-below 5 h g)
+    → (value q ≡ value p + value r) × (value q < 2 * base ^ 5)
+sum-kept p r l h g d =
+    let same = six l d (sum-below 5 h g) in
+    (same, rw same (less-than-two h g))

@@ -106,7 +106,7 @@ fn weighted(sum: [u32; 4], weight: u32) -> [u32; 6]
 
 // The energies of both periods, each times its weight.
 fn weighted_sum(daytime: [u32; 4], night: [u32; 4], day_weight: u32, night_weight: u32) -> [u32; 6]
-    ensures { λ r. ⌜ value r ≡ «day_weight» * value daytime + «night_weight» * value night ⌝ }
+    ensures { λ r. ⌜ (value r ≡ «day_weight» * value daytime + «night_weight» * value night) × (value r < 2 * base ^ 5) ⌝ }
 {
     let mut total = weighted(daytime, day_weight);
     let part = weighted(night, night_weight);

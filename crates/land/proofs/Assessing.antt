@@ -6,13 +6,13 @@ use mathlib.Core.List.{[]}
 use mathlib.Core.Option.{Option}
 use native.Mathlib.Omega.{arith}
 use lib.Dec.{leb, ltb}
-use lib.IntN.{pos, negsuc, _-ℤ_}
-use lib.Signed.{mag}
+use lib.IntN.{ℤ, pos, negsuc, _-ℤ_}
 use mir.Syntax.{w32}
 use mir.Val.{SFits}
-use borrow.Author.Tests.{leb-true}
+use borrow.Author.Tests.{leb-true, ltb-false}
 use Rattle.quantity.specs.Answers.{Reading}
 use Rattle.quantity.specs.Limits.{highestDayLevel}
+use Rattle.quantity.specs.Scale.{isLevelOutside}
 use Rattle.quantity.specs.Rules.{Outcome, refused, follow}
 use Rattle.land.specs.Classes.{I, IV, limitOf}
 use Rattle.land.specs.Answers.{classNumber}
@@ -20,6 +20,7 @@ use Rattle.land.specs.Verdict.{exceeds, unknownClass, landClassOf, verdi
 use Rattle.land.specs.declared.LandClass.{LandClass}
 use Rattle.land.specs.declared.LandClass.the-variants.{One, Two, Three, Four}
 use Rattle.quantity.proofs.Refusing.{skip, stop, end}
+use Rattle.quantity.proofs.Scale.{not-outside}
 
 -- the number of a class is that of a known class
 pub known-class : (class : LandClass) → unknownClass (classNumber class) .refuses ≡ false
@@ -43,17 +44,18 @@ no-class n h₁ h₂ h₃ h₄ = go (leb I n) refl (leb n IV) refl where
   go true p false q = refl
   go false p b q = refl
 
--- a difference of two numbers is at most the larger of them in size
-mag-difference : (a b n : ℕ) → a ≤ n → b ≤ n → mag (pos a -ℤ pos b) ≤ n
-mag-difference a zero n h k = omega arith
-mag-difference a (suc b) n h k = go (ltb a (suc b)) where
-  go : (t : Bool) → mag (cond t (negsuc (suc b - suc a)) (pos (a - suc b))) ≤ n
-  go true = omega arith
-  go false = omega arith
+-- the difference of a limit and a level that is not outside fits 32 bits
+pub difference-fits : {a : ℕ} (r : ℤ) → a ≤ highestDayLevel → isLevelOutside r ≡ false → SFits w32 (pos a -ℤ r)
+difference-fits {a} (pos zero) h k = record { sfits = omega arith }
+difference-fits {a} (pos (suc b)) h k = go (ltb a (suc b))
+  where
+    small : suc b ≤ highestDayLevel
+    small = omega (arith, not-outside (pos (suc b)) k .1)
 
--- so the difference of two levels of a record fits 32 bits
-pub difference-fits : {a b : ℕ} → a ≤ highestDayLevel → b ≤ highestDayLevel → SFits w32 (pos a -ℤ pos b)
-difference-fits {a} {b} h k = record { sfits = omega (arith, mag-difference a b highestDayLevel h k) }
+    go : (t : Bool) → SFits w32 (cond t (negsuc (suc b - suc a)) (pos (a - suc b)))
+    go true = record { sfits = omega (arith, small) }
+    go false = record { sfits = omega (arith, small) }
+difference-fits {a} (negsuc b) h k = record { sfits = omega (arith, ltb-false 4999 b (not-outside (negsuc b) k .0)) }
 
 -- a verdict on a class that is looked up is the verdict on the class
 pub looked-up : (class : ℕ) {land : Outcome ℕ} → land ≡ landClassOf class → (yearly : Reading) (sensitive : Bool) (highest : Option ℕ)

@@ -8,7 +8,8 @@ use lib.IntN.{ℤ, pos, _-ℤ_}
 use lib.Signed.{ltZ}
 use Rattle.quantity.specs.Answers as quantity
 use Rattle.quantity.specs.Answers.{Reading}
-use Rattle.quantity.specs.Limits.{highestSample, highestDayLevel}
+use Rattle.quantity.specs.Limits.{highestSample}
+use Rattle.quantity.specs.Scale.{isReadingOutside}
 use Rattle.quantity.specs.Rules.{Rule, firstOf, Outcome, outcome}
 use Rattle.land.specs.Classes.{I, II, IV, limitOf}
 
@@ -22,20 +23,15 @@ pub record Assessment : Type 0 where
   pub finding : Finding
   pub margin : Option ℤ
 
--- a level in the scale, none below it
-abbrev pub inScale : Reading → Option ℕ
-inScale (quantity.level l) = some l
-inScale quantity.below-scale = none
-
 -- a level that is there exceeds a bound
 abbrev pub exceeds : Option ℕ → ℕ → Bool
 exceeds (some l) bound = ltb bound l
 exceeds none bound = false
 
 -- 'Verdict': limit − YLdn, signed; none for class IV or below scale
-abbrev pub marginOf : Option ℕ → Option ℕ → Option ℤ
-marginOf (some limit) (some yearly) = some (pos limit -ℤ pos yearly)
-marginOf (some limit) none = none
+abbrev pub marginOf : Option ℕ → Reading → Option ℤ
+marginOf (some limit) (quantity.level yearly) = some (pos limit -ℤ yearly)
+marginOf (some limit) quantity.below-scale = none
 marginOf none yearly = none
 
 -- 'Verdict', over level: the margin is negative
@@ -61,10 +57,10 @@ abbrev pub unknownClass : ℕ → Rule
 unknownClass class = record { number = 15; refuses = not (leb I class && leb class IV) }
 
 -- 'Refused calls': verdict 15, 14, 4
-abbrev pub refusals : ℕ → Option ℕ → Option ℕ → List Rule
+abbrev pub refusals : ℕ → Reading → Option ℕ → List Rule
 refusals class yearly highest =
     unknownClass class
-    ∷ record { number = 14; refuses = exceeds yearly highestDayLevel }
+    ∷ record { number = 14; refuses = isReadingOutside yearly }
     ∷ record { number = 4; refuses = exceeds highest highestSample }
     ∷ []
 
@@ -75,8 +71,8 @@ landClassOf class = outcome (firstOf (unknownClass class ∷ [])) class
 -- 'Verdict': what is answered for a class, a year's level, a sensitive building or none, and the highest Lmax
 abbrev pub verdictOf : ℕ → Reading → Bool → Option ℕ → Outcome Assessment
 verdictOf class yearly sensitive highest =
-    outcome (firstOf (refusals class (inScale yearly) highest))
+    outcome (firstOf (refusals class yearly highest))
     (record {
-      finding = findingOf (limitOf class) (marginOf (limitOf class) (inScale yearly)) (overMaximum class sensitive highest);
-      margin = marginOf (limitOf class) (inScale yearly);
+      finding = findingOf (limitOf class) (marginOf (limitOf class) yearly) (overMaximum class sensitive highest);
+      margin = marginOf (limitOf class) yearly;
     })

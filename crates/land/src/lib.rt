@@ -5,6 +5,7 @@ ghost use mathlib.Core.Bool.{false};
 ghost use lib.IntN.{pos, _-ℤ_};
 ghost use Rattle.quantity.specs.Answers.{reading, highestReading};
 ghost use Rattle.quantity.specs.Limits.{highestDayLevel};
+ghost use Rattle.quantity.specs.Scale.{isLevelOutside, isReadingOutside};
 ghost use Rattle.quantity.specs.Rules.{refused, follow};
 ghost use Rattle.land.specs.Classes.{classOf, limitOf};
 ghost use Rattle.land.specs.Answers.{
@@ -17,7 +18,6 @@ ghost use Rattle.land.specs.Answers.{
 };
 ghost use Rattle.land.specs.Verdict.{
   over,
-  inScale,
   exceeds,
   marginOf,
   negative,
@@ -155,16 +155,6 @@ pub fn limit_of(class: LandClass) -> Limit
     }
 }
 
-// Whether a year's level exceeds a bound.
-fn yearly_exceeds(yearly: Reading, bound: u32) -> bool
-    ensures { λ r. ⌜ r ≡ exceeds (inScale (reading yearly)) bound ⌝ }
-{
-    match yearly {
-        Reading::At(level) => bound < level.0,
-        Reading::BelowScale => false,
-    }
-}
-
 // Whether the highest Lmax exceeds a bound.
 fn highest_exceeds(highest: HighestLevel, bound: u32) -> bool
     ensures { λ r. ⌜ r ≡ exceeds (highestReading highest) bound ⌝ }
@@ -176,11 +166,11 @@ fn highest_exceeds(highest: HighestLevel, bound: u32) -> bool
 }
 
 // A limit minus a level.
-fn difference(limit: u32, level: u32) -> i32
-    requires { ⌜ (limit ≤ highestDayLevel) × (level ≤ highestDayLevel) ⌝ }
-    ensures { λ r. ⌜ r ≡ pos limit -ℤ pos level ⌝ }
+fn difference(limit: u32, level: i32) -> i32
+    requires { ⌜ (limit ≤ highestDayLevel) × (isLevelOutside level ≡ false) ⌝ }
+    ensures { λ r. ⌜ r ≡ pos limit -ℤ level ⌝ }
 {
-    (limit as i32) - (level as i32)
+    (limit as i32) - level
 }
 
 // Whether a margin is negative.
@@ -227,10 +217,10 @@ fn named(level: bool, maximum: bool) -> Finding
     }
 }
 
-// The margin of a year's level to a limit, neither above the highest level of a record.
+// The margin of a year's level to a limit, neither of them outside.
 fn margin_of(limit: Limit, yearly: Reading) -> Margin
-    requires { ⌜ (exceeds (limitReading limit) highestDayLevel ≡ false) × (exceeds (inScale (reading yearly)) highestDayLevel ≡ false) ⌝ }
-    ensures { λ r. ⌜ marginReading r ≡ marginOf (limitReading limit) (inScale (reading yearly)) ⌝ }
+    requires { ⌜ (exceeds (limitReading limit) highestDayLevel ≡ false) × (isReadingOutside (reading yearly) ≡ false) ⌝ }
+    ensures { λ r. ⌜ marginReading r ≡ marginOf (limitReading limit) (reading yearly) ⌝ }
 {
     match limit {
         Limit::Nothing => Margin::Nothing,
@@ -260,8 +250,8 @@ fn assess(
 ) -> VerdictAnswer
     ensures { λ r. ⌜ verdictReading r ≡ verdictOf (classNumber class) (reading yearly) sensitive (highestReading highest) ⌝ }
 {
-    if yearly_exceeds(yearly, quantity::HIGHEST_DAY_LEVEL) {
-        return VerdictAnswer::Refused(Refusal::RecordLevelTooHigh);
+    if quantity::is_reading_outside(yearly) {
+        return VerdictAnswer::Refused(Refusal::RecordLevelOutside);
     }
     if highest_exceeds(highest, quantity::HIGHEST_SAMPLE) {
         return VerdictAnswer::Refused(Refusal::LevelTooHigh);

@@ -5,9 +5,9 @@ use mean::MeanAnswer;
 use mean::ReadAnswer;
 use quantity::Check;
 use quantity::DayAnswer;
-use quantity::Level;
 use quantity::Method;
 use quantity::Reading;
+use quantity::SignedLevel;
 
 fn week_of_7(days: [DayAnswer; 7]) -> MeanAnswer {
     mean::week_mean(&days)
@@ -35,9 +35,9 @@ fn rewrite_and_read(days: [DayAnswer; 7], place: usize, new: DayAnswer, at: usiz
 }
 
 // A day by method one.
-fn day_of(level: u32) -> DayAnswer {
+fn day_of(level: i32) -> DayAnswer {
     DayAnswer {
-        level: Reading::At(Level(level)),
+        level: Reading::At(SignedLevel(level)),
         method: Method::One,
     }
 }
@@ -56,9 +56,19 @@ fn show_refusal(number: u8) {
     show_number(number as u64);
 }
 
+// A number, behind '-' where it is negative.
+fn show_signed(number: i32) {
+    if number < 0 {
+        text(b" -");
+        io::print_decimal(STDOUT_FILENO, quantity::size_of(number) as u64);
+    } else {
+        show_number(quantity::size_of(number) as u64);
+    }
+}
+
 fn show_level(level: Reading) {
     match level {
-        Reading::At(at) => show_number(at.0 as u64),
+        Reading::At(at) => show_signed(at.0),
         Reading::BelowScale => text(b" -"),
     }
 }
@@ -98,7 +108,8 @@ fn show_rewriting(label: &[u8], back: ReadBack) {
     text(b"\n");
 }
 
-fn main() {
+// Means and records of document 01.
+fn show_loud_days() {
     let six = day_of(6000);
     let seven = day_of(7000);
     show_mean(
@@ -128,4 +139,52 @@ fn main() {
         b"a level above 20000, R 14 and 6000:",
         rewrite_and_read([six; 7], 0, day_of(20001), 0),
     );
+}
+
+// Those of quiet fields.
+fn show_quiet_days() {
+    let six = day_of(6000);
+    let lowest = day_of(-5000);
+    let quiet = DayAnswer {
+        level: Reading::BelowScale,
+        method: Method::One,
+    };
+    show_mean(b"seven days -5000, -5000:", week_of_7([lowest; 7]));
+    show_mean(
+        b"a day below scale among them, -:",
+        week_of_7([lowest, lowest, lowest, quiet, lowest, lowest, lowest]),
+    );
+    show_mean(
+        b"six days -1 and one 845, 268:",
+        week_of_7([
+            day_of(-1),
+            day_of(-1),
+            day_of(-1),
+            day_of(845),
+            day_of(-1),
+            day_of(-1),
+            day_of(-1),
+        ]),
+    );
+    show_mean(
+        b"a day under -5000, R 14:",
+        week_of_7([six, six, day_of(-5001), six, six, six, six]),
+    );
+    show_rewriting(
+        b"a record of -5000 written and read, A -5000:",
+        rewrite_and_read([six; 7], 3, lowest, 3),
+    );
+    show_rewriting(
+        b"a record of -1 written and read, A -1:",
+        rewrite_and_read([six; 7], 3, day_of(-1), 3),
+    );
+    show_rewriting(
+        b"a level under -5000, R 14 and 6000:",
+        rewrite_and_read([six; 7], 0, day_of(-5001), 0),
+    );
+}
+
+fn main() {
+    show_loud_days();
+    show_quiet_days();
 }

@@ -1,6 +1,7 @@
 -- The leading digits of a number: one digit fewer, and the level that they show.
 use mathlib.Core.Path.{_≡_, _∙_}
 use mathlib.Core.Logic.{_↔_}
+use mathlib.Core.Option.{some, none}
 use Prim.Native.Nat.{ℕ, suc, _+_, _-_, _*_, _/_, _^_, _≤_, _<_}
 use native.Mathlib.Nat.{
   add-assoc,
@@ -19,10 +20,9 @@ use native.Mathlib.Nat.{
 use native.Mathlib.Numerals.{add-one}
 use native.Mathlib.Omega.{arith}
 use lib.Dec.{lit<}
-use Rattle.quantity.specs.Answers.{level, below-scale}
 use Rattle.power.specs.Power.{m, e, G}
 use Rattle.power.proofs.Scale.{e-zero, e-at}
-use Rattle.level.specs.Level.{levelOf}
+use Rattle.level.specs.Level.{heightOf}
 use Rattle.level.specs.Leading.{Leads, Found}
 use Rattle.level.proofs.Answer.{answered}
 
@@ -67,22 +67,22 @@ module _ {first start digits omitted : ℕ} (p : Shortening first start digits o
       }
 
 -- ten digits or fewer are below the scale where they do not reach its first mantissa
-pub digits-below : {n digits omitted : ℕ} → digits < G → Leads n digits omitted → below-scale ≡ levelOf 0 1 n
+pub digits-below : {n digits omitted : ℕ} → digits < G → Leads n digits omitted → none ≡ heightOf 0 1 n
 digits-below {n} {digits} {omitted} h l =
-    let some : 0 < omitted → ⊥ = λ z. omega (arith, l .kept z) in
-    let none : omitted ≡ 0 = omega arith in
-    let all : digits ≡ n = l .cut ∙ (rw (none, pow-zero) (div-one n)) in
-    answered 0 1 n below-scale (lit< tt) (rw e-zero (omega arith))
+    let kept : 0 < omitted → ⊥ = λ z. omega (arith, l .kept z) in
+    let whole : omitted ≡ 0 = omega arith in
+    let all : digits ≡ n = l .cut ∙ (rw (whole, pow-zero) (div-one n)) in
+    answered 0 1 n none (lit< tt) (rw e-zero (omega arith))
 
 -- to try a mantissa on the digits is to try a level on the number
 pub tried : (f : ℕ) → f ≤ 1000 → {n digits omitted : ℕ} → Leads n digits omitted → (m f ≤ digits) ↔ (e (1000 * omitted + f) ≤ n)
 tried f h {n} {digits} {omitted} l = rw (l .cut, e-at omitted f h) (le-div-iff-mul-le (positive omitted))
 
--- so digits that are not below the scale show the level
-pub digits-level : {n digits omitted f : ℕ} → Found digits f → Leads n digits omitted → level (1000 * omitted + f) ≡ levelOf 0 1 n
+-- so digits that are not below the scale show the level of the table
+pub digits-level : {n digits omitted f : ℕ} → Found digits f → Leads n digits omitted → some (1000 * omitted + f) ≡ heightOf 0 1 n
 digits-level {n} {digits} {omitted} {f} p l =
     let c = 1000 * omitted + f in
     let reached : e c ≤ n = tried f (omega (arith, p .place)) l .0 (p .low) in
     let missed : n < e (c + 1) =
     rw (add-assoc (1000 * omitted) f 1) (lt-of-not-le (λ h. not-le-of-lt (p .high) (tried (f + 1) (omega (arith, p .place)) l .1 h))) in
-    answered 0 1 n (level c) (lit< tt) (rw (add-zero c, one-mul (e c)) reached, rw (add-zero (c + 1), one-mul (e (c + 1))) missed)
+    answered 0 1 n (some c) (lit< tt) (rw (add-zero c, one-mul (e c)) reached, rw (add-zero (c + 1), one-mul (e (c + 1))) missed)

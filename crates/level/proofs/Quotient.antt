@@ -1,8 +1,10 @@
--- A quotient in limbs, cut by nine digits a turn until it fits 64 bits.
+-- A sum in limbs times the depth of the scale, and its quotient, cut by nine digits a turn until it fits 64 bits.
 use mathlib.Core.Path.{_≡_, refl, ap, sym, _∙_}
 use mathlib.Core.List.{List}
 use Prim.Native.Nat.{ℕ, _+_, _*_, _/_, _%_, _^_, _≤_, _<_}
 use native.Mathlib.Nat.{
+  mul-comm,
+  pow-suc,
   pow-zero,
   div-one,
   div-lt-iff-lt-mul,
@@ -20,9 +22,19 @@ use native.Mathlib.Omega.{arith}
 use lib.Dec.{lit<, lit≤}
 use lib.ListN.{length}
 use lib.Pow.{pow-add}
+use Rattle.quantity.specs.Scale.{depthFactor}
 use Rattle.limbs.specs.Value.{base, value, limbsOf}
-use Rattle.limbs.proofs.Digits.{value-limbsOf}
+use Rattle.limbs.proofs.Digits.{value-limbsOf, value-limbsOf-whole}
 use Rattle.level.specs.Leading.{Leads}
+
+-- six limbs have room for the product
+product-room : (b v : ℕ) → v < 2 * b → v * depthFactor < b * base
+product-room b v h = omega arith
+
+pub deepened-kept : (p : List ℕ) {q : List ℕ} → length p ≡ 6 → value p < 2 * base ^ 5 → q ≡ limbsOf (length p) (value p * depthFactor) → value q ≡ depthFactor * value p
+deepened-kept p l h d =
+    let room : value p * depthFactor < base ^ 6 = rw (pow-suc base 5) (product-room (base ^ 5) (value p) h) in
+    ap value d ∙ ap (λ (i : ℕ). value (limbsOf i (value p * depthFactor))) l ∙ value-limbsOf-whole 6 (value p * depthFactor) room ∙ mul-comm (value p) depthFactor
 
 -- the limbs q are the leading digits of the number of first, whose six limbs are fewer than 58 digits
 pub record Reducing (first q : List ℕ) (omitted : ℕ) : Type 0 where

@@ -1,19 +1,22 @@
 // The level of a sum over a divisor: the quotient is cut to its ten leading digits, and these are looked up among the mantissas.
 ghost use mathlib.Core.Path.{_≡_};
-ghost use Prim.Native.Nat.{ℕ, _+_, _*_, _/_, _≤_, _<_};
+ghost use Prim.Native.Nat.{ℕ, _+_, _*_, _/_, _^_, _≤_, _<_};
 ghost use lib.Dec.{leb};
 ghost use lib.ListN.{length};
 ghost use Rattle.quantity.specs.Answers.{reading};
+ghost use Rattle.quantity.specs.Scale.{depthFactor};
 ghost use Rattle.power.specs.Power.{G, m};
 ghost use Rattle.power.specs.Table.{IsRow, IsTable};
-ghost use Rattle.limbs.specs.Value.{value};
-ghost use Rattle.level.specs.Level.{levelOf};
-ghost use Rattle.level.specs.Leading.{Leads, Between, Found, lowered};
-use quantity::Level;
+ghost use Rattle.limbs.specs.Value.{base, value};
+ghost use Rattle.level.specs.Level.{readingAt, largestLevel, levelOf};
+ghost use Rattle.level.specs.Leading.{Leads, Between, Found, without};
 use quantity::Reading;
 
 // The first mantissa, m(0).
 const UNIT: u64 = 1000000000;
+
+// The depth of the scale below 0 as a factor of energies: 50 dB are five decades.
+const DEPTH_FACTOR: u32 = 100000;
 
 // The turns that close any range of the thousand mantissas, since each turn halves it: 2^10 is 1024.
 const MOST_TURNS: u32 = 10;
@@ -93,10 +96,10 @@ fn ten_digits(number: Leading) -> Leading
     Leading { digits, omitted }
 }
 
-// The level of a number of which the leading digits are given, with the table that the caller has made.
+// The largest level of which the power is at most a number, whose leading digits are given, with the table that the caller has made.
 pub fn level_of_leading(table: &[u64; 1000], number: Leading) -> Reading
     requires { ⌜ IsTable (now table) × (number .omitted ≤ 100) ⌝ }
-    ensures { λ r. ⌜ ((n : ℕ) → Leads n (number .digits) (number .omitted) → reading r ≡ levelOf 0 1 n) ⌝ }
+    ensures { λ r. ⌜ ((n : ℕ) → Leads n (number .digits) (number .omitted) → reading r ≡ largestLevel 0 1 n) ⌝ }
 {
     let short = ten_digits(number);
     let digits = short.digits;
@@ -104,13 +107,24 @@ pub fn level_of_leading(table: &[u64; 1000], number: Leading) -> Reading
     if digits < UNIT {
         return Reading::BelowScale;
     }
-    Reading::At(Level(1000 * omitted + place_in_table(table, digits)))
+    Reading::At(quantity::lowered(1000 * omitted + place_in_table(table, digits)))
 }
 
-// The same without a table.
-fn level_by_row(number: Leading) -> Reading
+// The reading of a raised level, less an offset.
+fn reading_at(height: u32, offset: u32) -> Reading
+    requires { ⌜ height ≤ 200000 ⌝ }
+    ensures { λ r. ⌜ reading r ≡ readingAt (without offset height) ⌝ }
+{
+    if height < offset {
+        return Reading::BelowScale;
+    }
+    Reading::At(quantity::lowered(height - offset))
+}
+
+// The same as `level_of_leading`, with an offset on the table and without a table that is made.
+fn level_by_row(number: Leading, offset: u32) -> Reading
     requires { ⌜ number .omitted ≤ 100 ⌝ }
-    ensures { λ r. ⌜ ((n : ℕ) → Leads n (number .digits) (number .omitted) → reading r ≡ levelOf 0 1 n) ⌝ }
+    ensures { λ r. ⌜ ((n : ℕ) → Leads n (number .digits) (number .omitted) → reading r ≡ largestLevel offset 1 n) ⌝ }
 {
     let short = ten_digits(number);
     let digits = short.digits;
@@ -118,21 +132,7 @@ fn level_by_row(number: Leading) -> Reading
     if digits < UNIT {
         return Reading::BelowScale;
     }
-    Reading::At(Level(1000 * omitted + place_in_row(digits)))
-}
-
-// A level less an offset, or below scale.
-fn lowered_by(answer: Reading, offset: u32) -> Reading
-    ensures { λ r. ⌜ reading r ≡ lowered offset (reading answer) ⌝ }
-{
-    match answer {
-        Reading::At(level) => if offset <= level.0 {
-            Reading::At(Level(level.0 - offset))
-        } else {
-            Reading::BelowScale
-        },
-        Reading::BelowScale => Reading::BelowScale,
-    }
+    reading_at(1000 * omitted + place_in_row(digits), offset)
 }
 
 // The quotient of a sum by a divisor, without its lowest digits where it passes 64 bits.
@@ -153,12 +153,22 @@ fn leading_quotient(sum: [u32; 6], divisor: u32) -> Leading
     }
 }
 
+// A sum times the depth of the scale.
+fn deepened(sum: [u32; 6]) -> [u32; 6]
+    requires { ⌜ value sum < 2 * base ^ 5 ⌝ }
+    ensures { λ r. ⌜ value r ≡ depthFactor * value sum ⌝ }
+{
+    let mut product = sum;
+    limbs::scale(&mut product, DEPTH_FACTOR);
+    product
+}
+
 // The level of a sum over a divisor, with an offset on the table.
 pub fn level_over(sum: [u32; 6], divisor: u32, offset: u32) -> Reading
-    requires { ⌜ 0 < divisor ⌝ }
+    requires { ⌜ (0 < divisor) × (value sum < 2 * base ^ 5) ⌝ }
     ensures { λ r. ⌜ reading r ≡ levelOf offset divisor (value sum) ⌝ }
 {
-    let quotient = leading_quotient(sum, divisor);
-    let answer = level_by_row(quotient);
-    lowered_by(answer, offset)
+    let deep = deepened(sum);
+    let quotient = leading_quotient(deep, divisor);
+    level_by_row(quotient, offset)
 }

@@ -1,4 +1,4 @@
--- The total of days of which none is too high is the very sum of their powers, and 366 days have room.
+-- The total of days of which none is outside is the very sum of their powers, and 366 days have room.
 use mathlib.Core.Path.{_≡_, refl, sym, ap, _∙_}
 use mathlib.Core.Bool.{Bool, true, false, _||_, cond}
 use mathlib.Core.List.{List, [], _∷_, _++_}
@@ -9,13 +9,15 @@ use native.Mathlib.Omega.{arith}
 use borrow.Author.Tests.{ltb-false, leb-false, lt-leb, le-leb, eqb-true, ne-eqb}
 use borrow.Author.Needs.{needs}
 use lib.Dec.{ltb, eqb}
+use lib.IntN.{ℤ, pos}
 use lib.ListN.{length, take, getD, set, length-take}
 use lib.Seq.{take-suc, take-length}
 use Rattle.quantity.specs.Answers.{Reading, level, below-scale, reading, refusalNumber, checkNumber}
 use Rattle.quantity.specs.Rules.{firstOf, Outcome, refused, given, outcome, follow}
-use Rattle.quantity.specs.Limits.{highestDayLevel}
+use Rattle.quantity.specs.Scale.{raised, isLevelOutside, isReadingOutside}
 use Rattle.quantity.specs.declared.DayAnswer.{DayAnswer}
 use Rattle.quantity.proofs.Refusing.{pass, refusal-positive}
+use Rattle.quantity.proofs.Scale.{not-outside}
 use Rattle.quantity.proofs.Tests.{neither}
 use Rattle.quantity.proofs.Lists.{zero-at}
 use Rattle.quantity.specs.declared.Check.{Check}
@@ -24,13 +26,13 @@ use Rattle.quantity.specs.declared.Refusal.{Refusal}
 use Rattle.power.specs.Power.{e, G}
 use Rattle.decades.specs.Sums.{total, withPower, Readable}
 use Rattle.decades.proofs.Counting.{Added, added, fresh}
-use Rattle.level.specs.Level.{levelOf}
-use Rattle.mean.specs.Mean.{powerOf, sumOfPowers, isTooHigh, anyTooHigh, isCountWrong, meanRules, meanOf}
+use Rattle.level.specs.Level.{largestLevel}
+use Rattle.mean.specs.Mean.{powerOf, sumOfPowers, anyOutside, isCountWrong, meanRules, meanOf}
 use Rattle.mean.specs.Records.{readings, blank, recordAt, DayReading, dayReading, rewriteRules, rewriteNumber, rewritten}
-use Rattle.mean.specs.Total.{noDays, withDay, withRead, totalOf, daysIfAllowed, meanOfTotal}
+use Rattle.mean.specs.Total.{noDays, sumsWith, withDay, withRead, totalOf, daysIfAllowed, meanOfTotal}
 use Rattle.mean.specs.declared.Total.{Total}
 
--- whether a level was too high
+-- whether a level was outside
 pub or-none : (a : Bool) → a ≡ (a || false)
 or-none true = refl
 or-none false = refl
@@ -43,30 +45,35 @@ or-assoc : (a b c : Bool) → ((a || b) || c) ≡ (a || (b || c))
 or-assoc true b c = refl
 or-assoc false b c = refl
 
-total-high : (t : Total) (days : List Reading) → totalOf t days .high ≡ (t .high || anyTooHigh days)
-unfolding totalOf anyTooHigh
-total-high t [] = or-none (t .high)
-total-high t (day ∷ days) =
-    total-high (withDay t day) days
-    ∙ or-assoc (t .high) (isTooHigh day) (anyTooHigh days)
+total-outside : (t : Total) (days : List Reading) → totalOf t days .outside ≡ (t .outside || anyOutside days)
+unfolding totalOf anyOutside
+total-outside t [] = or-none (t .outside)
+total-outside t (day ∷ days) =
+    total-outside (withDay t day) days
+    ∙ or-assoc (t .outside) (isReadingOutside day) (anyOutside days)
+
+-- a level that is outside is not added
+pub sums-outside : (s : List ℕ) (day : Reading) → isReadingOutside day ≡ true → s ≡ sumsWith s day
+sums-outside s (level r) h = rw h
+sums-outside s below-scale h = refl
 
 -- the sums of n days at the most
 record Kept (n : ℕ) (s : List ℕ) : Type 0 where
-  pub size : length s ≡ 21
+  pub size : length s ≡ 26
   pub most : (j : ℕ) → getD s j 0 ≤ 10 * G * n
 
--- the power of a level that is not too high is added
-power-added : (s : List ℕ) (c : ℕ) → length s ≡ 21 → ltb highestDayLevel c ≡ false → Added (λ k. 10 ^ k) s c (withPower s c)
-power-added s c l h = added (λ k. 10 ^ k) s (c / 1000) c (omega (arith, ltb-false highestDayLevel c h)) refl
+-- the power of a level that is not outside is added
+power-added : (s : List ℕ) (r : ℤ) → length s ≡ 26 → isLevelOutside r ≡ false → Added (λ k. 10 ^ k) s (raised r) (withPower s (raised r))
+power-added s r l h = added (λ k. 10 ^ k) s (raised r / 1000) (raised r) (omega (arith, not-outside r h .1)) refl
 
 day-kept : (n : ℕ) (t : Total) (day : Reading) → Kept n (t .sums) → Kept (suc n) (withDay t day .sums)
 day-kept n t below-scale p = record { size = p .size; most = λ j. omega (arith, p .most j) }
-day-kept n t (level c) p = go (ltb highestDayLevel c) refl
+day-kept n t (level r) p = go (isLevelOutside r) refl
   where
-    go : (b : Bool) → ltb highestDayLevel c ≡ b → Kept (suc n) (cond b (t .sums) (withPower (t .sums) c))
+    go : (b : Bool) → isLevelOutside r ≡ b → Kept (suc n) (cond b (t .sums) (withPower (t .sums) (raised r)))
     go true q = record { size = p .size; most = λ j. omega (arith, p .most j) }
     go false q =
-        let a = power-added (t .sums) c (p .size) q in
+        let a = power-added (t .sums) r (p .size) q in
         record { size = a .size ∙ p .size; most = λ j. omega (arith, a .most j, p .most j) }
 
 total-kept : (n : ℕ) (t : Total) (days : List Reading) → Kept n (t .sums) → Kept (n + length days) (totalOf t days .sums)
@@ -77,29 +84,29 @@ total-kept n t (day ∷ days) p =
     rw (← e) (total-kept (suc n) (withDay t day) days (day-kept n t day p))
 
 no-days-kept : Kept 0 (noDays .sums)
-no-days-kept = record { size = refl; most = λ j. omega (arith, zero-at 21 j) }
+no-days-kept = record { size = refl; most = λ j. omega (arith, zero-at 26 j) }
 
 pub total-readable : (days : List Reading) → length days ≤ 366 → Readable (totalOf noDays days .sums)
 total-readable days h =
     let p = total-kept 0 noDays days no-days-kept in
     record { few = omega (arith, p .size); each = λ j. omega (arith, p .most j) }
 
-day-sum : (n : ℕ) (t : Total) (day : Reading) → Kept n (t .sums) → isTooHigh day ≡ false → total (withDay t day .sums) ≡ total (t .sums) + powerOf day
+day-sum : (n : ℕ) (t : Total) (day : Reading) → Kept n (t .sums) → isReadingOutside day ≡ false → total (withDay t day .sums) ≡ total (t .sums) + powerOf day
 unfolding total
-day-sum n t (level c) p h = rw h (power-added (t .sums) c (p .size) h .whole)
+day-sum n t (level r) p h = rw h (power-added (t .sums) r (p .size) h .whole)
 day-sum n t below-scale p h = sym (add-zero (total (t .sums)))
 
-total-sum : (n : ℕ) (t : Total) (days : List Reading) → Kept n (t .sums) → anyTooHigh days ≡ false → total (totalOf t days .sums) ≡ total (t .sums) + sumOfPowers days
-unfolding totalOf anyTooHigh sumOfPowers
+total-sum : (n : ℕ) (t : Total) (days : List Reading) → Kept n (t .sums) → anyOutside days ≡ false → total (totalOf t days .sums) ≡ total (t .sums) + sumOfPowers days
+unfolding totalOf anyOutside sumOfPowers
 total-sum n t [] p h = sym (add-zero (total (t .sums)))
 total-sum n t (day ∷ days) p h =
-    let q = neither (isTooHigh day) (anyTooHigh days) h in
+    let q = neither (isReadingOutside day) (anyOutside days) h in
     omega (arith, day-sum n t day p (q .0), total-sum (suc n) (withDay t day) days (day-kept n t day p) (q .1))
 
--- the total of a year without a level that is too high
-year-sum : (days : List Reading) → anyTooHigh days ≡ false → total (totalOf noDays days .sums) ≡ sumOfPowers days
+-- the total of a year without a level that is outside
+year-sum : (days : List Reading) → anyOutside days ≡ false → total (totalOf noDays days .sums) ≡ sumOfPowers days
 unfolding total
-year-sum days h = omega (arith, total-sum 0 noDays days no-days-kept h, fresh (λ k. 10 ^ k) 21)
+year-sum days h = omega (arith, total-sum 0 noDays days no-days-kept h, fresh (λ k. 10 ^ k) 26)
 
 -- the mean from the total
 counted-all : (fewest most n : ℕ) → isCountWrong fewest most n ≡ false → (fewest ≤ n) × (n ≤ most)
@@ -123,19 +130,19 @@ pub mean-from-total : (fewest most : ℕ) (days : List Reading) → 0 < fewest �
 unfolding meanOfTotal meanOf firstOf
 mean-from-total fewest most days positive few = go (isCountWrong fewest most (length days)) refl
   where
-    whole : (high : Bool) → anyTooHigh days ≡ high → length days ≤ 366
-        → outcome (firstOf (meanRules false high)) (levelOf 0 (length days) (total (totalOf noDays days .sums)))
-        ≡ outcome (firstOf (meanRules false high)) (levelOf 0 (length days) (sumOfPowers days))
+    whole : (outside : Bool) → anyOutside days ≡ outside → length days ≤ 366
+        → outcome (firstOf (meanRules false outside)) (largestLevel 0 (length days) (total (totalOf noDays days .sums)))
+        ≡ outcome (firstOf (meanRules false outside)) (largestLevel 0 (length days) (sumOfPowers days))
     whole true q l = refl
-    whole false q l = ap (λ (s : ℕ). given (levelOf 0 (length days) s)) (year-sum days q)
+    whole false q l = ap (λ (s : ℕ). given (largestLevel 0 (length days) s)) (year-sum days q)
 
     go : (b : Bool) → isCountWrong fewest most (length days) ≡ b
         → meanOfTotal (totalOf noDays (take (daysIfAllowed b (length days)) days)) (daysIfAllowed b (length days))
-        ≡ outcome (firstOf (meanRules b (anyTooHigh days))) (levelOf 0 (length days) (sumOfPowers days))
+        ≡ outcome (firstOf (meanRules b (anyOutside days))) (largestLevel 0 (length days) (sumOfPowers days))
     go true q = refl
     go false q =
         let p = counted-all fewest most (length days) q in
-        rw (take-length days, ne-eqb (length days) 0 (omega arith), total-high noDays days) (whole (anyTooHigh days) refl (omega arith))
+        rw (take-length days, ne-eqb (length days) 0 (omega arith), total-outside noDays days) (whole (anyOutside days) refl (omega arith))
 
 -- the records
 pub length-readings : (days : List DayAnswer) → length (readings days) ≡ length days
@@ -143,7 +150,7 @@ unfolding readings
 length-readings [] = refl
 length-readings (day ∷ days) = ap suc (length-readings days)
 
-reading-at : (days : List DayAnswer) (place : ℕ) → getD (readings days) place (level 0) ≡ reading (getD days place blank .level)
+reading-at : (days : List DayAnswer) (place : ℕ) → getD (readings days) place (level (pos 0)) ≡ reading (getD days place blank .level)
 unfolding readings
 reading-at [] place = refl
 reading-at (day ∷ days) zero = refl
@@ -155,10 +162,10 @@ total-snoc t [] day = refl
 total-snoc t (x ∷ xs) day = total-snoc (withDay t x) xs day
 
 -- the total of the first days with the next one
-pub total-more : (t : Total) (days : List Reading) (k : ℕ) → k < length days → withDay (totalOf t (take k days)) (getD days k (level 0)) ≡ totalOf t (take (k + 1) days)
+pub total-more : (t : Total) (days : List Reading) (k : ℕ) → k < length days → withDay (totalOf t (take k days)) (getD days k (level (pos 0))) ≡ totalOf t (take (k + 1) days)
 total-more t days k h =
-    sym (total-snoc t (take k days) (getD days k (level 0)))
-    ∙ ap (totalOf t) (sym (take-suc days k (level 0) h) ∙ ap (λ (n : ℕ). take n days) (sym (add-one k)))
+    sym (total-snoc t (take k days) (getD days k (level (pos 0))))
+    ∙ ap (totalOf t) (sym (take-suc days k (level (pos 0)) h) ∙ ap (λ (n : ℕ). take n days) (sym (add-one k)))
 
 pub record-found : (days : List DayAnswer) (place : ℕ) → place < length days → recordAt days place ≡ given (dayReading (getD days place blank))
 unfolding recordAt firstOf

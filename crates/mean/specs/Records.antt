@@ -2,13 +2,14 @@
 use mathlib.Core.List.{List, [], _∷_}
 use Prim.Native.Nat.{ℕ}
 use lib.Dec.{leb}
+use lib.IntN.{pos}
 use lib.ListN.{length, getD, set}
 use Rattle.quantity.specs.Answers.{Reading, reading, methodNumber, refusalNumber}
+use Rattle.quantity.specs.Scale.{isReadingOutside}
 use Rattle.quantity.specs.Rules.{Rule, firstOf, Outcome, refused, given, outcome, follow}
 use Rattle.quantity.specs.declared.Reading.the-variants.{At}
 use Rattle.quantity.specs.declared.Method.the-variants.{One}
 use Rattle.quantity.specs.declared.DayAnswer.{DayAnswer}
-use Rattle.mean.specs.Mean.{isTooHigh}
 use Rattle.mean.specs.declared.ReadAnswer.{ReadAnswer}
 use Rattle.mean.specs.declared.ReadAnswer.the-variants.{Record, Refused}
 
@@ -19,7 +20,7 @@ readings (day ∷ days) = reading (day .level) ∷ readings days
 
 -- what stands past the end of a run
 abbrev pub blank : DayAnswer
-blank = record { level = At (record { 0 = 0 }); method = One }
+blank = record { level = At (record { 0 = pos 0 }); method = One }
 
 -- a day's answer: its level or 'below scale', and the number of its method
 pub record DayReading : Type 0 where
@@ -45,7 +46,7 @@ recordAt days place = outcome (firstOf (placeRule (length days) place ∷ [])) (
 -- rewriting a record: 13 for the place, then 14 for the new level
 abbrev pub rewriteRules : (count place : ℕ) → DayAnswer → List Rule
 rewriteRules count place new =
-    placeRule count place ∷ record { number = 14; refuses = isTooHigh (reading (new .level)) } ∷ []
+    placeRule count place ∷ record { number = 14; refuses = isReadingOutside (reading (new .level)) } ∷ []
 
 unfoldable pub rewriteNumber : (count place : ℕ) → DayAnswer → ℕ
 rewriteNumber count place new = firstOf (rewriteRules count place new)

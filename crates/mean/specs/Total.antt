@@ -1,30 +1,30 @@
 -- The code's own machinery, not the papers': a reader of the papers can leave it out.
--- The total that a mean is formed from, day by day: a sum of powers for each of the decades up to 20000.
+-- The total that a mean is formed from, day by day: a sum of powers for each of the decades of raised levels, up to 25000.
 use mathlib.Core.Bool.{Bool, false, _||_, cond}
 use mathlib.Core.List.{List, [], _∷_}
 use Prim.Native.Nat.{ℕ}
-use lib.Dec.{ltb, eqb}
+use lib.Dec.{eqb}
 use lib.ListN.{replicate}
 use Rattle.quantity.specs.Answers.{Reading, level, below-scale}
 use Rattle.quantity.specs.Rules.{firstOf, Outcome, outcome, follow}
-use Rattle.quantity.specs.Limits.{highestDayLevel}
-use Rattle.level.specs.Level.{levelOf}
+use Rattle.quantity.specs.Scale.{raised, isLevelOutside, isReadingOutside}
+use Rattle.level.specs.Level.{largestLevel}
 use Rattle.decades.specs.Sums.{total, withPower}
-use Rattle.mean.specs.Mean.{isTooHigh, meanRules}
+use Rattle.mean.specs.Mean.{meanRules}
 use Rattle.mean.specs.Records.{DayReading}
 use Rattle.mean.specs.declared.Total.{Total}
 
 -- the total of no days
 abbrev pub noDays : Total
-noDays = record { sums = replicate 21 0; high = false }
+noDays = record { sums = replicate 26 0; outside = false }
 
--- the sums, and the total, with one day more; a level that is too high is noted and not added
+-- the sums, and the total, with one day more; a level that is outside is noted and not added
 abbrev pub sumsWith : List ℕ → Reading → List ℕ
-sumsWith s (level c) = cond (ltb highestDayLevel c) s (withPower s c)
+sumsWith s (level r) = cond (isLevelOutside r) s (withPower s (raised r))
 sumsWith s below-scale = s
 
 abbrev pub withDay : Total → Reading → Total
-withDay t day = record { sums = sumsWith (t .sums) day; high = t .high || isTooHigh day }
+withDay t day = record { sums = sumsWith (t .sums) day; outside = t .outside || isReadingOutside day }
 
 -- the total with the day of a record that was read
 abbrev pub withRead : Total → Outcome DayReading → Total
@@ -41,4 +41,4 @@ daysIfAllowed wrong count = cond wrong 0 count
 
 -- the mean of a total over the number of days that were added up
 unfoldable pub meanOfTotal : Total → ℕ → Outcome Reading
-meanOfTotal t days = outcome (firstOf (meanRules (eqb days 0) (t .high))) (levelOf 0 days (total (t .sums)))
+meanOfTotal t days = outcome (firstOf (meanRules (eqb days 0) (t .outside))) (largestLevel 0 days (total (t .sums)))

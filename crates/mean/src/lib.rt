@@ -7,7 +7,8 @@ ghost use lib.ListN.{length};
 ghost use Rattle.quantity.specs.Answers.{reading, checkNumber};
 ghost use Rattle.power.specs.Table.{IsTable};
 ghost use Rattle.decades.specs.Sums.{Readable};
-ghost use Rattle.mean.specs.Mean.{isTooHigh, isCountWrong, meanOutcome, meanOf, weekMeanOf, yearMeanOf};
+ghost use Rattle.quantity.specs.Scale.{isReadingOutside};
+ghost use Rattle.mean.specs.Mean.{isCountWrong, meanOutcome, meanOf, weekMeanOf, yearMeanOf};
 ghost use Rattle.mean.specs.Records.{readings, readOutcome, recordAt, rewriteNumber, rewritten};
 ghost use Rattle.mean.specs.Total.{noDays, sumsWith, withDay, withRead, daysIfAllowed, meanOfTotal};
 use quantity::Check;
@@ -27,20 +28,10 @@ pub enum ReadAnswer {
     Refused(Refusal),
 }
 
-// The sum of e over some days by decades, and whether one of their levels was too high.
+// The sum of e over the raised levels of some days by decades, and whether one of their levels was outside.
 pub struct Total {
-    pub sums: [u64; 21],
-    pub high: bool,
-}
-
-// Refusal 14: a day's level is too high.
-pub fn is_too_high(level: Reading) -> bool
-    ensures { λ r. ⌜ r ≡ isTooHigh (reading level) ⌝ }
-{
-    match level {
-        Reading::At(at) => quantity::HIGHEST_DAY_LEVEL < at.0,
-        Reading::BelowScale => false,
-    }
+    pub sums: [u64; 26],
+    pub outside: bool,
 }
 
 // The total of no days.
@@ -48,25 +39,25 @@ pub fn no_days() -> Total
     ensures { λ r. ⌜ r ≡ noDays ⌝ }
 {
     Total {
-        sums: [0u64; 21],
-        high: false,
+        sums: [0u64; 26],
+        outside: false,
     }
 }
 
-// Adds one day's level to lent sums, and says whether a level was too high, before or now. Such a level is not added.
-pub fn add_day(table: &[u64; 1000], sums: &mut [u64; 21], high: bool, level: Reading) -> bool
+// Adds one day's level to lent sums, and says whether a level was outside, before or now. Such a level is not added.
+pub fn add_day(table: &[u64; 1000], sums: &mut [u64; 26], outside: bool, level: Reading) -> bool
     requires { ⌜ IsTable (now table) × Readable (now sums) ⌝ }
-    ensures { λ r. ⌜ (r ≡ (high || isTooHigh (reading level))) × (now (sums .exit) ≡ sumsWith (now (sums .entry)) (reading level)) ⌝ }
+    ensures { λ r. ⌜ (r ≡ (outside || isReadingOutside (reading level))) × (now (sums .exit) ≡ sumsWith (now (sums .entry)) (reading level)) ⌝ }
 {
+    if quantity::is_reading_outside(level) {
+        return true;
+    }
     match level {
         Reading::At(at) => {
-            if quantity::HIGHEST_DAY_LEVEL < at.0 {
-                return true;
-            }
-            decades::add_level(table, sums, at);
-            high
+            decades::add_level(table, sums, quantity::raised(at));
+            outside
         }
-        Reading::BelowScale => high,
+        Reading::BelowScale => outside,
     }
 }
 
@@ -76,8 +67,8 @@ fn with_day(table: &[u64; 1000], total: Total, level: Reading) -> Total
     ensures { λ r. ⌜ r ≡ withDay total (reading level) ⌝ }
 {
     let mut sums = total.sums;
-    let high = add_day(table, &mut sums, total.high, level);
-    Total { sums, high }
+    let outside = add_day(table, &mut sums, total.outside, level);
+    Total { sums, outside }
 }
 
 // A total with the day of a record that was read.
@@ -116,10 +107,10 @@ pub fn mean_of_total(table: &[u64; 1000], total: Total, days: usize) -> MeanAnsw
     if days == 0 {
         return MeanAnswer::Refused(Refusal::DayCount);
     }
-    if total.high {
-        return MeanAnswer::Refused(Refusal::RecordLevelTooHigh);
+    if total.outside {
+        return MeanAnswer::Refused(Refusal::RecordLevelOutside);
     }
-    MeanAnswer::Mean(decades::level_over(table, &sums, days as u32))
+    MeanAnswer::Mean(decades::largest_level(table, &sums, days as u32))
 }
 
 // Refusals 13 and 14 of rewriting a record.
@@ -130,8 +121,8 @@ fn check_rewrite(count: usize, place: usize, new: DayAnswer) -> Check
     if count <= place {
         return Check::Refused(Refusal::DayCount);
     }
-    if is_too_high(level) {
-        return Check::Refused(Refusal::RecordLevelTooHigh);
+    if quantity::is_reading_outside(level) {
+        return Check::Refused(Refusal::RecordLevelOutside);
     }
     Check::Passed
 }

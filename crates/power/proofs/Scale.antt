@@ -1,11 +1,12 @@
 -- How near e, which has ten digits, and X, which has K places, come to the power of ten that both stand for; and that e rises.
 use mathlib.Core.Path.{_≡_, sym}
 use Prim.Native.Nat.{ℕ, zero, suc, _+_, _*_, _/_, _%_, _^_, _≤_, _<_}
-use native.Mathlib.Nat.{one-le-pow, mul-comm, mul-le-mul-left, mul-le-mul-right, pow-suc, pow-lt-pow-left, div-add-mod, le-refl, le-trans, lt-of-le-of-lt}
+use native.Mathlib.Nat.{one-le-pow, mul-comm, mul-left-comm, mul-le-mul-left, mul-le-mul-right, pow-suc, pow-lt-pow-left, div-add-mod, le-refl, le-trans, lt-of-le-of-lt}
 use native.Mathlib.Decide.{le-ind, decLt}
 use native.Mathlib.Numerals.{add-one}
 use native.Mathlib.Omega.{arith}
 use lib.Dec.{lit<, lit≤}
+use lib.Pow.{pow-add}
 use Rattle.power.specs.Power.{X, m, e, G}
 use Rattle.power.proofs.Arithmetic.{mul-pow, lt-of-pow}
 use Rattle.power.proofs.Search.{root-only}
@@ -90,6 +91,14 @@ e-at q f h = elim (decLt f 1000) [ yes u ↦ inside u | no v ↦ ends (omega ari
         let r : (1000 * q + f) % 1000 ≡ 0 = omega arith in
         let d : (1000 * q + f) / 1000 ≡ suc q = omega arith in
         rw (r, d, v, m-zero, m-thousand, pow-suc) (omega arith)
+
+-- a level that is higher by whole tens of decibels has a power of as many digits more
+pub e-higher : (k c : ℕ) → e (1000 * k + c) ≡ 10 ^ k * e c
+unfolding e
+e-higher k c =
+    let r : (1000 * k + c) % 1000 ≡ c % 1000 = omega arith in
+    let d : (1000 * k + c) / 1000 ≡ k + c / 1000 = omega arith in
+    rw (r, d, pow-add 10 k (c / 1000)) (mul-left-comm (m (c % 1000)) (10 ^ k) (10 ^ (c / 1000)))
 
 -- where d ^ 1000 has b digits, the mantissas from place b on begin with d or a higher digit, and those before do not
 pub digit-reached : (d b : ℕ) → 10 ^ b ≤ d ^ 1000 → m b ≤ d * G

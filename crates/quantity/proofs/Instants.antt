@@ -9,7 +9,9 @@ use mir.Facts.{toZ-ofZ, toZ-pos, sfits-widen}
 use mir.Syntax.{w32, w64}
 use mir.Val.{SFits, toZ, ofZ}
 use Rattle.quantity.specs.declared.Instant.{Instant}
-use Rattle.quantity.specs.Instants.{midnight, ticksOf, instantAt, instantOf, afterMidnight, signed}
+use Rattle.quantity.specs.Instants.{midnight, ticksOf, instantAt, instantOf, afterMidnight}
+use Rattle.quantity.specs.Numbers.{signed, bitsOf}
+use Rattle.quantity.proofs.Numbers.{NotBelow, origin-back, sign-back, origin-sum}
 use Rattle.quantity.proofs.Tests.{test}
 
 -- a time of 32 bits has an instant of 32 bits
@@ -19,18 +21,15 @@ ticks-fit (negsuc n) h = omega arith
 
 -- the time of an instant has that instant
 pub ticks-back : (n : ℕ) → ticksOf (afterMidnight (instantAt n)) ≡ n
-ticks-back n =
-    test (ltb n midnight)
-    (λ t. rw t (omega (arith, ltb-true n midnight t)))
-    (λ f. rw f (omega (arith, ltb-false n midnight f)))
+ticks-back = origin-back midnight
 
 -- the instant of a time of 32 bits has that time
+not-before : (z : ℤ) → SFits w32 z → NotBelow midnight z
+not-before (pos n) h = tt
+not-before (negsuc n) h = omega (arith, h .sfits)
+
 pub time-back : (z : ℤ) → SFits w32 z → afterMidnight (instantOf z) ≡ z
-time-back (pos n) h = let e : (midnight + n) - midnight ≡ n = omega arith in rw (le-ltb (midnight + n) midnight (omega arith), e)
-time-back (negsuc n) h =
-    let small : suc n ≤ midnight = omega (arith, h .sfits) in
-    let e : midnight - suc (midnight - suc n) ≡ n = omega arith in
-    rw (lt-ltb (midnight - suc n) midnight (omega arith), e)
+time-back z h = sign-back midnight z (not-before z h)
 
 pub time-fits : (n : ℕ) → n < 4294967296 → SFits w32 (afterMidnight (instantAt n))
 time-fits n h =
@@ -48,8 +47,7 @@ instant-handed fits e = e ∙ ap instantOf (toZ-ofZ fits)
 
 -- midnight added to a time
 pub with-midnight : (z : ℤ) → SFits w32 z → z +ℤ pos midnight ≡ pos (ticksOf z)
-with-midnight (pos n) h = ap pos (omega arith)
-with-midnight (negsuc n) h = rw (le-ltb midnight (suc n) (omega (arith, h .sfits)))
+with-midnight z h = origin-sum midnight z (not-before z h)
 
 -- the same for the bits of a time as they are widened
 pub widened : (z : ℤ) → SFits w32 z → toZ w64 (ofZ w64 (toZ w32 (ofZ w32 z))) +ℤ pos midnight ≡ pos (ticksOf z)
@@ -61,3 +59,8 @@ of-bits n h =
     test (ltb n 2147483648)
     (λ t. rw t (omega (arith, ltb-true n 2147483648 t)))
     (λ f. rw f (omega (arith, ltb-false n 2147483648 f)))
+
+-- and the other way round
+pub to-bits : (z : ℤ) → SFits w32 z → (ticksOf z + midnight) % 2 ^ 32 ≡ bitsOf z
+to-bits (pos n) h = omega (arith, h .sfits)
+to-bits (negsuc n) h = omega (arith, h .sfits)

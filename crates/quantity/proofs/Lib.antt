@@ -1,6 +1,8 @@
--- The laws that every crate cites: tables of refusals, tests, instants, and lists.
+-- The laws that every crate cites: tables of refusals, tests, numbers with a sign, instants, the scale of levels, and lists.
 pub mod Refusing
 pub mod Outcomes
 pub mod Tests
+pub mod Numbers
 pub mod Instants
+pub mod Scale
 pub mod Lists

@@ -1,6 +1,7 @@
 -- What each case of an answer stands for in document 01: its number, or its value.
 use mathlib.Core.Option.{Option, some, none}
 use Prim.Native.Nat.{ℕ}
+use lib.IntN.{ℤ}
 use Rattle.quantity.specs.declared.Reading as declared
 use Rattle.quantity.specs.declared.Reading.the-variants as readings
 use Rattle.quantity.specs.declared.HighestLevel.{HighestLevel}
@@ -13,9 +14,9 @@ use Rattle.quantity.specs.declared.Refusal.{Refusal}
 use Rattle.quantity.specs.declared.Refusal.the-variants as refusals
 use Rattle.quantity.specs.Rules.{Outcome, refused, given}
 
--- 'Powers': a level in hundredths of a decibel, or 'below scale'
+-- 'Powers': a level in hundredths of a decibel, signed since W-210, or 'below scale'
 pub data Reading : Type 0 where
-  level : ℕ → Reading
+  level : ℤ → Reading
   below-scale : Reading
 
 abbrev pub reading : declared.Reading → Reading
@@ -47,7 +48,7 @@ refusalNumber refusals.BookInvalid = 10
 refusalNumber refusals.CalibrationDrift = 11
 refusalNumber refusals.NoMethod = 12
 refusalNumber refusals.DayCount = 13
-refusalNumber refusals.RecordLevelTooHigh = 14
+refusalNumber refusals.RecordLevelOutside = 14
 refusalNumber refusals.LandUnknown = 15
 refusalNumber refusals.FileFault = 16
 refusalNumber refusals.FileTooLong = 17

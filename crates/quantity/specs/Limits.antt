@@ -5,6 +5,6 @@ use Prim.Native.Nat.{ℕ}
 abbrev pub highestSample : ℕ
 highestSample = 14000
 
--- 14: no day's and no year's level is above it
+-- 14: no day's and no year's level is above it; the lowest one is that of the scale
 abbrev pub highestDayLevel : ℕ
 highestDayLevel = 20000

@@ -1,12 +1,17 @@
--- A number in its fewest digits is the number in decimal, without leading zeros.
-use mathlib.Core.Path.{_≡_}
+-- A number in its fewest digits is the number in decimal, without leading zeros; and the text of a number with a sign by its size.
+use mathlib.Core.Path.{_≡_, refl, subst}
+use mathlib.Core.Bool.{true, false}
+use mathlib.Core.List.{_++_}
 use Prim.Native.Nat.{ℕ, zero, suc, _*_, _-_, _/_, _%_, _^_, _≤_, _<_}
 use native.Mathlib.Nat.{mod-eq-of-lt, pow-suc, one-le-pow, pow-le-pow-right, lt-of-not-le, le-of-suc-le-suc}
 use native.Mathlib.Numerals.{sub-one}
 use native.Mathlib.Omega.{arith}
-use borrow.Author.Tests.{lt-ltb, le-ltb}
+use borrow.Author.Tests.{lt-ltb, le-ltb, ltb-true}
+use lib.Dec.{T}
+use lib.IntN.{ℤ, pos, negsuc, natAbs}
+use lib.Signed.{ltZ}
 use Rattle.io.specs.Digits.{digits, glyph, Fewest}
-use Rattle.report.specs.Text.{digit, digitsWithin, decimal}
+use Rattle.report.specs.Text.{digit, digitsWithin, decimal, dash, signedText}
 
 -- `io` writes a digit as document 01 does
 glyph-digit : (n : ℕ) → glyph (n % 10) ≡ digit (n % 10)
@@ -44,3 +49,12 @@ not-more m k n fewest holds some over =
 
 pub at-most : (m k n : ℕ) → Fewest 10 1 n k → n < 10 ^ m → 0 < m → k ≤ m
 at-most m k n fewest holds some = le-of-suc-le-suc (lt-of-not-le (not-more m k n fewest holds some))
+
+-- a negative number is '-' and the digits of its size, and any other is its size
+pub negative-text : (z : ℤ) → ltZ z (pos 0) ≡ true → dash ++ decimal (natAbs z) ≡ signedText z
+negative-text (pos n) h = absurd (omega (arith, ltb-true n 0 h))
+negative-text (negsuc n) h = refl
+
+pub plain-text : (z : ℤ) → ltZ z (pos 0) ≡ false → decimal (natAbs z) ≡ signedText z
+plain-text (pos n) h = refl
+plain-text (negsuc n) h = absurd (subst T h tt)

@@ -4,6 +4,7 @@ use mathlib.Core.List.{List, [], _∷_, _++_}
 use mathlib.Core.Option.{Option, some, none}
 use Prim.Native.Nat.{ℕ, zero, suc, _+_, _/_, _%_}
 use lib.Dec.{ltb}
+use lib.IntN.{ℤ, pos, negsuc}
 use Rattle.quantity.specs.Answers.{Reading, level, below-scale}
 use Rattle.quantity.specs.Rules.{Outcome, refused, given}
 use Rattle.offering.specs.Offer.{Accepted}
@@ -22,7 +23,7 @@ digitsWithin (suc k) n = cond (ltb n 10) (digit n ∷ []) (digitsWithin k (n / 1
 abbrev pub decimal : ℕ → List ℕ
 decimal = digitsWithin 20
 
--- the letters A, D, E, F and R, and '-' for below scale or no Lmax
+-- the letters A, D, E, F and R, and '-' for below scale, no Lmax, or before the digits of a negative level
 abbrev pub letterA : List ℕ
 letterA = 65 ∷ []
 
@@ -53,8 +54,13 @@ spaced (x ∷ xs) = field x ++ spaced xs
 abbrev pub lineOf : List ℕ → List (List ℕ) → List ℕ
 lineOf letter fields = letter ++ (spaced fields ++ (10 ∷ []))
 
+-- W-210: a negative number is '-' and its digits; `negsuc n` is -(n + 1)
+abbrev pub signedText : ℤ → List ℕ
+signedText (pos n) = decimal n
+signedText (negsuc n) = dash ++ decimal (suc n)
+
 abbrev pub readingText : Reading → List ℕ
-readingText (level c) = decimal c
+readingText (level r) = signedText r
 readingText below-scale = dash
 
 abbrev pub highestText : Option ℕ → List ℕ

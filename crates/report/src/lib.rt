@@ -10,6 +10,7 @@ ghost use Rattle.report.specs.Text.{
   decimal,
   field,
   spaced,
+  signedText,
   readingText,
   highestText,
   offerFields,
@@ -37,26 +38,48 @@ fn put_letter(line: &mut [u8; 64], at: usize, letter: u8) -> usize
     runs::put_bytes(line, at, &bytes)
 }
 
-// Puts a number of at most ten digits.
+// Puts the digits of a number, at most ten.
+fn put_digits(line: &mut [u8; 64], at: usize, n: u32) -> usize
+    requires { ⌜ at + 10 ≤ 64 ⌝ }
+    ensures { λ r. ⌜ Put (now (line .entry)) at (decimal n) (now (line .exit)) r ⌝ }
+    ensures size { λ r. ⌜ r ≤ at + 10 ⌝ }
+{
+    let mut digits = [0u8; 20];
+    let count = io::decimal(n as u64, &mut digits);
+    runs::put_bytes(line, at, &digits[..count])
+}
+
+// Puts a number of at most ten digits as a field.
 fn put_number(line: &mut [u8; 64], at: usize, n: u32) -> usize
     requires { ⌜ at + 11 ≤ 64 ⌝ }
     ensures { λ r. ⌜ Put (now (line .entry)) at (field (decimal n)) (now (line .exit)) r ⌝ }
     ensures size { λ r. ⌜ r ≤ at + 11 ⌝ }
 {
-    let mut digits = [0u8; 20];
-    let count = io::decimal(n as u64, &mut digits);
     let behind = runs::put_bytes(line, at, b" ");
-    runs::put_bytes(line, behind, &digits[..count])
+    put_digits(line, behind, n)
+}
+
+// Puts a number of at most ten digits, behind '-' where it is negative.
+fn put_signed(line: &mut [u8; 64], at: usize, n: i32) -> usize
+    requires { ⌜ at + 12 ≤ 64 ⌝ }
+    ensures { λ r. ⌜ Put (now (line .entry)) at (field (signedText n)) (now (line .exit)) r ⌝ }
+    ensures size { λ r. ⌜ r ≤ at + 12 ⌝ }
+{
+    if n < 0 {
+        let sign = put_letter(line, at, b'-');
+        return put_digits(line, sign, quantity::size_of(n));
+    }
+    put_number(line, at, quantity::size_of(n))
 }
 
 // Puts a level, or '-' for below scale.
 fn put_level(line: &mut [u8; 64], at: usize, answer: Reading) -> usize
-    requires { ⌜ at + 11 ≤ 64 ⌝ }
+    requires { ⌜ at + 12 ≤ 64 ⌝ }
     ensures { λ r. ⌜ Put (now (line .entry)) at (field (readingText (reading answer))) (now (line .exit)) r ⌝ }
-    ensures size { λ r. ⌜ r ≤ at + 11 ⌝ }
+    ensures size { λ r. ⌜ r ≤ at + 12 ⌝ }
 {
     match answer {
-        Reading::At(level) => put_number(line, at, level.0),
+        Reading::At(level) => put_signed(line, at, level.0),
         Reading::BelowScale => put_letter(line, at, b'-'),
     }
 }
@@ -85,9 +108,9 @@ fn put_refusal(line: &mut [u8; 64], at: usize, refusal: Refusal) -> usize
 
 // Puts the letter A, LAE and Lmax, or the refusal.
 fn put_offer(line: &mut [u8; 64], at: usize, answer: OfferAnswer) -> usize
-    requires { ⌜ at + 24 ≤ 64 ⌝ }
+    requires { ⌜ at + 25 ≤ 64 ⌝ }
     ensures { λ r. ⌜ Put (now (line .entry)) at (spaced (offerFields (offerOutcome answer))) (now (line .exit)) r ⌝ }
-    ensures size { λ r. ⌜ r ≤ at + 24 ⌝ }
+    ensures size { λ r. ⌜ r ≤ at + 25 ⌝ }
 {
     match answer {
         OfferAnswer::Refused(refusal) => put_refusal(line, at, refusal),
@@ -101,9 +124,9 @@ fn put_offer(line: &mut [u8; 64], at: usize, answer: OfferAnswer) -> usize
 
 // Puts the letter A, Ldn, the method, Nd', Nn' and the highest Lmax.
 fn put_closing(line: &mut [u8; 64], at: usize, closing: Closing) -> usize
-    requires { ⌜ at + 57 ≤ 64 ⌝ }
+    requires { ⌜ at + 58 ≤ 64 ⌝ }
     ensures { λ r. ⌜ Put (now (line .entry)) at (spaced (closingFields (closingReading closing))) (now (line .exit)) r ⌝ }
-    ensures size { λ r. ⌜ r ≤ at + 57 ⌝ }
+    ensures size { λ r. ⌜ r ≤ at + 58 ⌝ }
 {
     let answer = closing.answer;
     let ldn = answer.level;
@@ -119,9 +142,9 @@ fn put_closing(line: &mut [u8; 64], at: usize, closing: Closing) -> usize
 
 // Puts what a closing answers, or the refusal.
 fn put_close(line: &mut [u8; 64], at: usize, answer: CloseAnswer) -> usize
-    requires { ⌜ at + 57 ≤ 64 ⌝ }
+    requires { ⌜ at + 58 ≤ 64 ⌝ }
     ensures { λ r. ⌜ Put (now (line .entry)) at (spaced (closeFields (closeOutcome answer))) (now (line .exit)) r ⌝ }
-    ensures size { λ r. ⌜ r ≤ at + 57 ⌝ }
+    ensures size { λ r. ⌜ r ≤ at + 58 ⌝ }
 {
     match answer {
         CloseAnswer::Closed(closing) => put_closing(line, at, closing),

@@ -22,11 +22,16 @@ fn answered(answer: u8) -> Text {
 }
 
 // The same, and then a level where there is no refusal.
-fn with_value(text: Text, answer: u8, level: u32) -> Text {
+fn with_value(text: Text, answer: u8, level: i32) -> Text {
     if answer == 0 {
         return answers::with_level(text, level);
     }
     text
+}
+
+// The level of a record.
+fn level_of(day_record: u64) -> i32 {
+    quantity::signed_of((day_record % UPPER) as u32)
 }
 
 // The settings that document 01 has.
@@ -104,7 +109,7 @@ fn open_after(day: &mut [u32; 320], numbers: &[u32], words: Words) -> Text {
         rate: words::number_at(numbers, 1),
         first: words::number_at(numbers, 2),
         last: words::number_at(numbers, 3),
-        end: words::signed(words::number_at(numbers, 0)),
+        end: words::signed_at(numbers, 0),
     };
     open(day, opening, numbers, 4, words)
 }
@@ -122,7 +127,7 @@ fn offer(day: &mut [u32; 320], numbers: &[u32], words: Words) -> Text {
     let mut lmax = 0;
     let answer = c_interface::moatburdock_offer(
         day,
-        words::signed(words::number_at(numbers, 0)),
+        words::signed_at(numbers, 0),
         words::in_8_bits(words::number_at(numbers, 1)),
         words::in_16_bits(words::number_at(numbers, 2)),
         words::number_at(numbers, 3) != 0,
@@ -131,7 +136,10 @@ fn offer(day: &mut [u32; 320], numbers: &[u32], words: Words) -> Text {
         &mut exposure,
         &mut lmax,
     );
-    with_value(with_value(answered(answer), answer, exposure), answer, lmax)
+    if answer != 0 {
+        return answered(answer);
+    }
+    answers::with_lmax(answers::with_level(answered(answer), exposure), lmax)
 }
 
 // What a closing answers, and what it leaves in what it was lent.
@@ -170,11 +178,11 @@ fn close(day: &[u32; 320], numbers: &[u32]) -> Text {
         return answered(closed.answer);
     }
     let counts = closed.counts;
-    let ldn = answers::with_level(answered(closed.answer), (closed.day_record % UPPER) as u32);
+    let ldn = answers::with_level(answered(closed.answer), level_of(closed.day_record));
     let method = answers::with_number(ldn, closed.day_record / UPPER);
     let by_day = answers::with_count(method, counts[0]);
     let by_night = answers::with_count(by_day, counts[1]);
-    answers::with_level(by_night, counts[2])
+    answers::with_lmax(by_night, counts[2])
 }
 
 // highest BEFORE AFTER: closes, and shows what then stands in the place of each class
@@ -184,7 +192,7 @@ fn highest_by_class(day: &[u32; 320], numbers: &[u32]) -> Text {
     let mut text = answered(closed.answer);
     let mut i = 0;
     while i < 16 {
-        let next = answers::with_level(text, levels[i]);
+        let next = answers::with_lmax(text, levels[i]);
         text = next;
         i += 1;
     }
@@ -199,9 +207,9 @@ fn hour_or_highest(day: &[u32; 320], numbers: &[u32], second: u8) -> Text {
     highest_by_class(day, numbers)
 }
 
-// The record of a day with a level, by method one.
-fn record_of(level: u32) -> u64 {
-    UPPER + level as u64
+// The record of a day with a level of these bits, by method one.
+fn record_of(bits: u32) -> u64 {
+    UPPER + bits as u64
 }
 
 // Puts the records of days, whose levels are the numbers from a place on.
@@ -250,7 +258,7 @@ fn rewrite(numbers: &[u32]) -> Text {
     if read != 0 {
         return answers::with_answer(answered(answer), read);
     }
-    answers::with_level(answered(answer), (found % UPPER) as u32)
+    answers::with_level(answered(answer), level_of(found))
 }
 
 // verdict CLASS LEVEL SENSITIVE LMAX
@@ -259,9 +267,9 @@ fn verdict(numbers: &[u32]) -> Text {
     let mut margin = 0;
     let answer = c_interface::moatburdock_verdict(
         words::in_8_bits(words::number_at(numbers, 0)),
-        words::number_at(numbers, 1),
+        words::signed_at(numbers, 1),
         words::number_at(numbers, 2) != 0,
-        words::number_at(numbers, 3),
+        words::lmax_at(numbers, 3),
         &mut finding,
         &mut margin,
     );
@@ -279,7 +287,10 @@ fn land_class(numbers: &[u32]) -> Text {
         words::in_8_bits(words::number_at(numbers, 1)),
         &mut class,
     );
-    with_value(answered(answer), answer, class as u32)
+    if answer != 0 {
+        return answered(answer);
+    }
+    answers::with_number(answered(answer), class as u64)
 }
 
 // Makes a call, told by its first letter, and hour from highest by the second.

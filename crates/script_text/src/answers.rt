@@ -54,12 +54,12 @@ pub fn with_count(text: Text, n: u32) -> Text {
     with_number(text, n as u64)
 }
 
-// A level, or '-' for none.
-pub fn with_level(text: Text, level: u32) -> Text {
-    if level == words::NONE {
+// Lmax, or '-' for none.
+pub fn with_lmax(text: Text, lmax: u32) -> Text {
+    if lmax == words::NO_LMAX {
         return with_bytes(text, b" -");
     }
-    with_count(text, level)
+    with_count(text, lmax)
 }
 
 // 'A', or 'R' and the number of the refusal.
@@ -81,16 +81,20 @@ pub fn with_finding(text: Text, finding: u8) -> Text {
     }
 }
 
-// The size of a signed number. For a negative n it comes from -1 - n, which fits whatever n is.
-fn size(n: i32) -> u64 {
-    if n < 0 { (-1 - n) as u64 + 1 } else { n as u64 }
+pub fn with_signed(text: Text, n: i32) -> Text {
+    let size = quantity::size_of(n) as u64;
+    if n < 0 {
+        return with_digits(with_bytes(text, b" -"), size);
+    }
+    with_number(text, size)
 }
 
-pub fn with_signed(text: Text, n: i32) -> Text {
-    if n < 0 {
-        return with_digits(with_bytes(text, b" -"), size(n));
+// A level, or '-' for below scale.
+pub fn with_level(text: Text, level: i32) -> Text {
+    if level == quantity::signed_of(words::NONE) {
+        return with_bytes(text, b" -");
     }
-    with_number(text, size(n))
+    with_signed(text, level)
 }
 
 // A margin; the largest number stands for none.

@@ -3,8 +3,11 @@
 ghost use mathlib.Core.Path.{_≡_};
 ghost use Prim.Native.Nat.{_+_, min};
 
-// What '-' stands for among the numbers: below scale, or no Lmax.
-pub const NONE: u32 = 4294967295;
+// What '-' stands for among the numbers: below scale, as C has it, by its bits; or no Lmax.
+pub const NONE: u32 = 2147483648;
+
+// What stands for no Lmax in C.
+pub const NO_LMAX: u32 = 4294967295;
 
 // The numbers of a call: how many there are, and how many stand before the '/'.
 pub struct Words {
@@ -227,19 +230,21 @@ pub fn copy_numbers(numbers: &[u32], out: &mut [u16]) {
     }
 }
 
-// The signed number of 32 bits.
-pub fn signed(n: u32) -> i32 {
-    if n < 2147483648 {
-        return n as i32;
-    }
-    (n as i64 - 4294967296) as i32
+// The number at a place as one with a sign, and as an Lmax.
+pub fn signed_at(numbers: &[u32], place: usize) -> i32 {
+    quantity::signed_of(number_at(numbers, place))
+}
+
+pub fn lmax_at(numbers: &[u32], place: usize) -> u32 {
+    let lmax = number_at(numbers, place);
+    if lmax == NONE { NO_LMAX } else { lmax }
 }
 
 // Copies signed numbers, 0 behind the last.
 pub fn copy_signed(numbers: &[u32], out: &mut [i32]) {
     let mut i = 0;
     while i < out.len() {
-        out[i] = signed(number_at(numbers, i));
+        out[i] = signed_at(numbers, i);
         i += 1;
     }
 }

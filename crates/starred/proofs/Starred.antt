@@ -9,7 +9,7 @@ use Rattle.limbs.specs.Value.{value, limbsOf}
 use Rattle.decades.specs.Decades.{energies}
 use Rattle.ledger.specs.Book.{sumOf}
 use Rattle.method.specs.Method.{sharesHold}
-use Rattle.mean.specs.Mean.{meanOf, sumOfPowers, anyTooHigh}
+use Rattle.mean.specs.Mean.{meanOf, sumOfPowers, anyOutside}
 use Rattle.starred.specs.Starred.{starred, AllHold, closes}
 use Rattle.starred.proofs.Levels.{m-is, e-tens, read}
 
@@ -25,15 +25,15 @@ a and b = (a, b)
 
 -- limbs are opened when they are numbers: before that, each event would make the sum four times as long
 pub shown : AllHold starred
-unfolding energies firstOf sumOf sharesHold meanOf sumOfPowers anyTooHigh
+unfolding energies firstOf sumOf sharesHold meanOf sumOfPowers anyOutside
 shown =
     m-is _ _ (lit≤ tt) (lit< tt)
     and (rw (e-tens 8) (read _ _ _ _ tt))
     and (rw (e-tens 8) (unfold value limbsOf in with-ldn (read _ _ _ _ tt)))
     and (rw (e-tens 8) (unfold value limbsOf in with-ldn (read _ _ _ _ tt)))
     and (rw (e-tens 8) (unfold value limbsOf in with-ldn (read _ _ _ _ tt)))
-    and (rw (e-tens 6, e-tens 7) (ap given (read _ _ _ _ tt)))
-    and (rw (e-tens 6) (ap given (read _ _ _ _ tt)))
+    and (rw (e-tens 11, e-tens 12) (ap given (read _ _ _ _ tt)))
+    and (rw (e-tens 11) (ap given (read _ _ _ _ tt)))
     and (unfold value limbsOf in with-ldn (read _ _ _ _ tt))
     and refl
     and refl

@@ -104,6 +104,10 @@ noon = 432000
 abbrev pub lastDaytimeStart : ℕ
 lastDaytimeStart = 791999
 
+-- a level that is not negative
+abbrev pub at : ℕ → Reading
+at r = level (pos r)
+
 -- a verdict with a margin
 abbrev pub assessed : Finding → ℤ → Outcome Assessment
 assessed finding margin = given (record { finding = findingReading finding; margin = some margin })
@@ -117,15 +121,15 @@ closes ldn method dayEvents nightEvents highest =
 abbrev pub starred : List Row
 starred =
     mantissa 500 is 3162277660
-    ∷ exposure fiveSamples is level 7477
-    ∷ closing (oneClass 1 0) (flyovers 1 noon) is closes (level 2540) 1 1 0 (some 8000)
-    ∷ closing (oneClass 0 1) (flyovers 1 lastDaytimeStart) is closes (level 3540) 1 0 1 (some 8000)
-    ∷ closing (oneClass 2 0) (flyovers 1 noon) is closes (level 2838) 2 1 0 (some 8000)
-    ∷ week (level 7000 ∷ replicate 6 (level 6000)) is given (level 6359)
-    ∷ week (replicate 7 (level 6000)) is given (level 6000)
+    ∷ exposure fiveSamples is at 7477
+    ∷ closing (oneClass 1 0) (flyovers 1 noon) is closes (at 2540) 1 1 0 (some 8000)
+    ∷ closing (oneClass 0 1) (flyovers 1 lastDaytimeStart) is closes (at 3540) 1 0 1 (some 8000)
+    ∷ closing (oneClass 2 0) (flyovers 1 noon) is closes (at 2838) 2 1 0 (some 8000)
+    ∷ week (at 7000 ∷ replicate 6 (at 6000)) is given (at 6359)
+    ∷ week (replicate 7 (at 6000)) is given (at 6000)
     ∷ closing (oneClass 0 0) [] is closes below-scale 1 0 0 none
-    ∷ verdict I (level 5700) false (some 9001) is assessed Within (pos 0)
-    ∷ verdict I (level 5701) false (some 9001) is assessed OverLevel (negℤ (pos 1))
-    ∷ closing (oneClass 10 0) (flyovers 9 noon) is closes (level 3494) 1 9 0 (some 8000)
-    ∷ closing (oneClass 9 0) (flyovers 8 noon) is closes (level 3491) 2 8 0 (some 8000)
+    ∷ verdict I (at 5700) false (some 9001) is assessed Within (pos 0)
+    ∷ verdict I (at 5701) false (some 9001) is assessed OverLevel (negℤ (pos 1))
+    ∷ closing (oneClass 10 0) (flyovers 9 noon) is closes (at 3494) 1 9 0 (some 8000)
+    ∷ closing (oneClass 9 0) (flyovers 8 noon) is closes (at 3491) 2 8 0 (some 8000)
     ∷ []

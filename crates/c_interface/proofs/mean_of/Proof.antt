@@ -11,11 +11,11 @@ use Rattle.c_interface.proofs.mean_of.Statement.{statement}
 use Rattle.c_interface.proofs.mean_of.Tie as tie
 
 abbrev Inv-loop : tie.InvT-loop
-Inv-loop records fewest most counted table sums₀ high₀ i₀ sums high i =
-    (i ≤ counted) × (counted ≤ length records) × (counted ≤ 366) × (record { sums = sums; high = high } ≡ totalTo records i)
+Inv-loop records fewest most counted table sums₀ outside₀ i₀ sums outside i =
+    (i ≤ counted) × (counted ≤ length records) × (counted ≤ 366) × (record { sums = sums; outside = outside } ≡ totalTo records i)
 
 abbrev μ-loop : tie.MeasureT-loop
-μ-loop records fewest most counted table sums₀ high₀ i₀ sums high i = counted - i
+μ-loop records fewest most counted table sums₀ outside₀ i₀ sums outside i = counted - i
 
 loop-holds : tie.Need-loop-holds Inv-loop μ-loop
 loop-holds c =

@@ -9,7 +9,7 @@ returns c = rw (c .refusal-number .ensures, c .before .before .answer .given .1)
 returns-2 : tie.Need-returns-2
 returns-2 c =
     let level = c .before .before in
-    rw (c .highest-number .ensures, c .before .method-number .ensures, level .level-number .ensures, level .before .before .before .answer2 .given .1)
+    rw (c .highest-number .ensures, c .before .method-number .ensures, level .level-bits .ensures, level .before .before .before .answer2 .given .1)
 
 pub close-numbers-spec : {M : Type 1} → statement M
 close-numbers-spec =

@@ -7,7 +7,7 @@ returns : tie.Need-returns
 returns c = rw (c .refusal-number .ensures, c .before .before .answer .given .1)
 
 returns-2 : tie.Need-returns-2
-returns-2 c = rw (c .level-number .ensures, c .before .before .answer2 .given .1)
+returns-2 c = rw (c .level-bits .ensures, c .before .before .answer2 .given .1)
 
 pub event-numbers-spec : {M : Type 1} → statement M
 event-numbers-spec =

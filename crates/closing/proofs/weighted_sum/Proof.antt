@@ -10,8 +10,8 @@ returns : tie.Need-returns
 returns c =
     let daytime = c .before .before .before .before .before .weighted in
     let night = c .before .before .before .before .weighted2 in
-    sum-kept (daytime .result) (night .result) (search needs) (daytime .ensures .1) (night .ensures .1) (c .before .add .ensures .1)
-    ∙ ap₂ _+_ (daytime .ensures .0) (night .ensures .0)
+    let kept = sum-kept (daytime .result) (night .result) (search needs) (daytime .ensures .1) (night .ensures .1) (c .before .add .ensures .1) in
+    (kept .0 ∙ ap₂ _+_ (daytime .ensures .0) (night .ensures .0), kept .1)
 
 pub weighted-sum-spec : {M : Type 1} → statement M
 weighted-sum-spec =

@@ -13,11 +13,11 @@ returns c = rw (le-leb _ _ (c .if1 .taken))
 
 returns-2 : tie.Need-returns-2
 unfolding rewriteNumber firstOf
-returns-2 c = rw (lt-leb _ _ (c .before .before .if1 .left), sym (c .before .is-too-high .ensures) ∙ c .if2 .taken)
+returns-2 c = rw (lt-leb _ _ (c .before .before .if1 .left), sym (c .before .is-reading-outside .ensures) ∙ c .if2 .taken)
 
 returns-3 : tie.Need-returns-3
 unfolding rewriteNumber firstOf
-returns-3 c = rw (lt-leb _ _ (c .before .before .if1 .left), sym (c .before .is-too-high .ensures) ∙ c .if2 .left)
+returns-3 c = rw (lt-leb _ _ (c .before .before .if1 .left), sym (c .before .is-reading-outside .ensures) ∙ c .if2 .left)
 
 pub check-rewrite-spec : {M : Type 1} → statement M
 check-rewrite-spec = tie.close (tie.spec returns (λ c κs. search needs) returns-2 returns-3)

@@ -18,7 +18,7 @@ returns-2 c = rw (ne-eqb _ _ (c .before .if1 .left), c .if2 .taken)
 returns-3 : tie.Need-returns-3
 unfolding meanOfTotal firstOf
 returns-3 c =
-    rw (ne-eqb _ _ (c .before .before .before .if1 .left), c .before .before .if2 .left) (ap given (c .level-over .ensures))
+    rw (ne-eqb _ _ (c .before .before .before .if1 .left), c .before .before .if2 .left) (ap given (c .largest-level .ensures))
 
 pub mean-of-total-spec : {M : Type 1} → statement M
 mean-of-total-spec =
