@@ -42,7 +42,7 @@ static int quiet_verdict(const uint64_t *records, size_t count) {
     int32_t yearly = 0, margin = 0;
     uint8_t finding = 0;
     if (failed("the year", moatburdock_year_mean(records, count, &yearly))
-        || failed("the verdict", moatburdock_verdict(1, yearly, false, MOATBURDOCK_NOTHING, &finding, &margin)))
+        || failed("the verdict", moatburdock_verdict(1, yearly, false, MOATBURDOCK_NO_LMAX, &finding, &margin)))
         return 1;
     printf("of %zu quiet days: YLdn %s, finding %u, ", count, text_of(yearly).of, finding);
     if (margin == MOATBURDOCK_NO_MARGIN)
@@ -130,7 +130,7 @@ int main(void) {
     printf("the day: Ldn %s by method %u, %u event by day, %u by night\n", text_of(MOATBURDOCK_LEVEL_OF(record)).of, MOATBURDOCK_METHOD_OF(record), counts[0],
            counts[1]);
     for (int class = 0; class < MOATBURDOCK_CLASSES; class++)
-        if (highest_by_class[class] != MOATBURDOCK_NOTHING)
+        if (highest_by_class[class] != MOATBURDOCK_NO_LMAX)
             printf("class %d: highest Lmax %u.%02u dB\n", class, highest_by_class[class] / 100, highest_by_class[class] % 100);
 
     uint64_t year[365];

@@ -2,7 +2,7 @@
  *
  * Link with target/staticlib/libmoatburdock.a, which tools/c_library writes. The library keeps nothing between calls, allocates nothing and calls
  * nothing but memcpy and memset: all that it reads and writes is what it is lent here. An offer takes 14 kB of stack, and a step of the reader, which has a
- * room for the longest window of its own, 71 kB.
+ * room for the longest window of its own, 69 kB.
  *
  * Levels are hundredths of a decibel, wind tenths of m/s. Samples, backgrounds, calibration levels and Lmax are 0 or more. LAE, Ldn and the means have a sign:
  * their scale begins at -5000, that is -50 dB, and whatever is less is below scale. Times are ticks after local midnight, negative before it, and a tick is one
@@ -40,7 +40,7 @@ extern "C" {
 #define MOATBURDOCK_BELOW_SCALE INT32_MIN
 
 /* Stands for no Lmax, and for nothing else. Compare no level with a sign with it: in C a level of -1 would be equal to it. */
-#define MOATBURDOCK_NOTHING UINT32_MAX
+#define MOATBURDOCK_NO_LMAX UINT32_MAX
 
 /* Stands for no margin: class IV, or a year below scale. */
 #define MOATBURDOCK_NO_MARGIN INT32_MAX
@@ -138,7 +138,7 @@ int32_t moatburdock_end_for_next_day(const uint32_t day[MOATBURDOCK_DAY_WORDS]);
 void moatburdock_hour_energy(const uint32_t day[MOATBURDOCK_DAY_WORDS], uint32_t hour, uint64_t energy[2]);
 
 /* Closes a day, with the calibration levels before and after it: gives the day's record (Ldn and its method), in counts the events by day, those by
- * night, and the highest Lmax (or MOATBURDOCK_NOTHING), and the highest Lmax of each class (or MOATBURDOCK_NOTHING; so for every class beyond the book).
+ * night, and the highest Lmax (or MOATBURDOCK_NO_LMAX), and the highest Lmax of each class (or MOATBURDOCK_NO_LMAX; so for every class beyond the book).
  * Ldn is below scale on a day without fly-overs, and where they come to less than -50 dB. The day is read and not changed; more offers may follow. Refusals
  * 11, then 12. */
 uint8_t moatburdock_close_day(const uint32_t day[MOATBURDOCK_DAY_WORDS], uint32_t before, uint32_t after, uint64_t *day_record, uint32_t counts[3],
@@ -154,7 +154,7 @@ uint8_t moatburdock_read_record(const uint64_t *records, size_t record_count, si
 uint8_t moatburdock_rewrite_record(uint64_t *records, size_t record_count, size_t place, uint64_t new_record);
 
 /* The verdict on land of a class, 1 to 4, for a year's level (or MOATBURDOCK_BELOW_SCALE), a sensitive building or none, and the highest Lmax (or
- * MOATBURDOCK_NOTHING): what it names, and the margin (or MOATBURDOCK_NO_MARGIN). The margin is limit less level, from -14300 to 11700, and negative where the
+ * MOATBURDOCK_NO_LMAX): what it names, and the margin (or MOATBURDOCK_NO_MARGIN). The margin is limit less level, from -14300 to 11700, and negative where the
  * level is over its limit. Refusals 15, 14, 4 in this order. */
 uint8_t moatburdock_verdict(uint8_t land_class, int32_t yearly, bool sensitive, uint32_t lmax, uint8_t *finding, int32_t *margin);
 
@@ -213,7 +213,7 @@ enum moatburdock_came {
     MOATBURDOCK_STARTED,                /* what stands before the events is read */
     MOATBURDOCK_EVENT,                  /* 0 or refusal 1 to 9, the event's number from 1; where it is accepted LAE, Lmax */
     MOATBURDOCK_CLOSED,                 /* 0 or refusal 11 or 12; where it is closed Ldn (or MOATBURDOCK_BELOW_SCALE), the method, the events by day, those
-                                           by night, the highest Lmax (or MOATBURDOCK_NOTHING). That of each class comes of moatburdock_close_day on the
+                                           by night, the highest Lmax (or MOATBURDOCK_NO_LMAX). That of each class comes of moatburdock_close_day on the
                                            reader's day, with the calibration levels of the file */
     MOATBURDOCK_FAULT,                  /* refusal 10, 16, 17 or 18; the reader's day is that of the events before the fault */
     MOATBURDOCK_DONE                    /* the day was closed or a fault met at an earlier step */

@@ -18,3 +18,4 @@ pub mod Midnight
 pub mod Unbroken
 pub mod Raised
 pub mod QuietFields
+pub mod Faintest

@@ -89,7 +89,7 @@ energies-most c (x ∷ xs) h =
 
 -- a part of a list has at most the energy of a part that it lies in
 
-drop-energy : (i j : ℕ) (s : List ℕ) → i ≤ j → energies (drop j s) ≤ energies (drop i s)
+pub drop-energy : (i j : ℕ) (s : List ℕ) → i ≤ j → energies (drop j s) ≤ energies (drop i s)
 unfolding energies
 drop-energy zero zero s h = le-refl _
 drop-energy zero (suc j) [] h = le-refl _

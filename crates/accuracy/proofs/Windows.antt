@@ -48,12 +48,13 @@ stretch-energy c s h =
     (energies-most c (stretchOf s) (le-trans (highest-slice (stretchFirst s) (stretchEnd s) s) h)) in
     omega arith
 
--- what no refusal says of an offer: 1 and 2, 3, 4, 8 and 9
+-- what no refusal says of an offer: 1 and 2, 3, 4, 6, 8 and 9
 pub record Admitted (rate : Rate) (o : Offering) (unbooked : Bool) (end : ℕ) (used : Bool) : Type 0 where
   pub some : 0 < length (o .samples)
   pub inside : Inside rate (o .recording .start .0) (peakOf (o .samples)) (length (o .samples))
   pub booked : unbooked ≡ false
   pub level : highest (o .samples) ≤ highestSample
+  pub loud : o .recording .background .0 + 1500 ≤ highest (o .samples)
   pub after : end ≤ o .recording .start .0 + stretchFirst (o .samples)
   pub unused : used ≡ false
 
@@ -70,6 +71,7 @@ admits rate o unbooked end used h =
       inside = inside rate (c .start .0) (peakOf (o .samples)) n (p .1 .0);
       booked = p .1 .1 .0;
       level = ltb-false highestSample (highest (o .samples)) (sym (any-above highestSample (o .samples)) ∙ high .0);
+      loud = ltb-false (highest (o .samples)) (c .background .0 + 1500) (p .1 .1 .1 .1 .1 .0);
       after = ltb-false (c .start .0 + stretchFirst (o .samples)) end (p .1 .1 .1 .1 .1 .1 .1 .0);
       unused = p .1 .1 .1 .1 .1 .1 .1 .1 .0;
     }

@@ -6,15 +6,17 @@ use mathlib.Core.List.{List, [], _∷_, map}
 use mathlib.Core.Option.{Option, some, none}
 use Prim.Native.Nat.{ℕ, _+_, _*_, _<_}
 use lib.Dec.{ltb}
-use lib.IntN.{pos}
+use lib.IntN.{ℤ, pos, negℤ}
 use lib.ListN.{length}
 use lib.Signed.{_<ℤ_}
 use Rattle.quantity.specs.Answers.{Reading, level, below-scale}
 use Rattle.quantity.specs.Limits.{highestDayLevel}
 use Rattle.quantity.specs.Rules.{firstOf, Outcome, refused, given, outcome, follow}
 use Rattle.power.specs.Power.{e}
-use Rattle.level.specs.Level.{heightOf, levelOf}
+use Rattle.level.specs.Level.{heightOf, levelOf, NoHigher}
 use Rattle.clock.specs.Clock.{samplesASecond}
+use Rattle.clock.specs.declared.Rate.{Rate}
+use Rattle.clock.specs.declared.Rate.the-variants.{Ten, Twenty, Forty}
 use Rattle.exposure.specs.Exposure.{energyOf}
 use Rattle.ledger.specs.Day.{energyIn}
 use Rattle.ledger.specs.declared.Day.{Day}
@@ -83,3 +85,16 @@ pub record QuietFieldsLaw : Type 0 where
   pub offers : (day : Day) (o : Offering) → KeptOutcome (exposureBefore day o) (levelIn (λ a. a .exposure) (offered day o .answer))
   pub closings : (day : Day) (before after : ℕ) → KeptOutcome (ldnBefore day before after) (levelIn (λ c. c .ldn) (closed day before after))
   pub means : (fewest most : ℕ) → 0 < fewest → (days : List (Option ℕ)) → KeptOutcome (meanBefore fewest most days) (meanOf fewest most (map sameToday days))
+
+-- Beyond the request: no event is below scale. What is accepted has an Lmax of 1500 or more (refusal 6), so its LAE is no lower than that of a lone sample of 1500.
+abbrev pub lowestExposure : Rate → ℤ
+lowestExposure Ten = pos 500
+lowestExposure Twenty = pos 198
+lowestExposure Forty = negℤ (pos 103)
+
+abbrev pub NoLower : ℤ → Outcome Reading → Type 0
+NoLower r (given a) = NoHigher (level r) a
+NoLower r (refused n) = Unit
+
+abbrev pub FaintestLaw : Type 0
+FaintestLaw = (day : Day) (o : Offering) → NoLower (lowestExposure (day .settings .rate)) (levelIn (λ a. a .exposure) (offered day o .answer))

@@ -28,15 +28,15 @@ abbrev pub levelBits : Reading → ℕ
 levelBits r = bitsOf (levelNumber r)
 
 -- the number that stands for no Lmax
-abbrev pub nothing : ℕ
-nothing = 4294967295
+abbrev pub noLmax : ℕ
+noLmax = 4294967295
 
 abbrev pub highestFrom : ℕ → Option ℕ
-highestFrom n = cond (eqb n nothing) none (some n)
+highestFrom n = cond (eqb n noLmax) none (some n)
 
 abbrev pub highestNumber : Option ℕ → ℕ
 highestNumber (some c) = c
-highestNumber none = nothing
+highestNumber none = noLmax
 
 -- the highest Lmax of each class
 abbrev pub classNumbers : List (Option ℕ) → List ℕ
@@ -75,7 +75,7 @@ Told (level r) = mag r < 2147483647
 Told below-scale = Unit
 
 abbrev pub ToldHighest : Option ℕ → Type 0
-ToldHighest (some c) = c < nothing
+ToldHighest (some c) = c < noLmax
 ToldHighest none = Unit
 
 -- reading a record that was written gives the level and the method that were written

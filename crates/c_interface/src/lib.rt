@@ -1,5 +1,5 @@
 // The entry points for C and Rust: on numbers, and with the day as 320 words that the caller lends. Each that can be refused answers 0 or the number of
-// the refusal, and a refused call leaves all that it was lent as it was. Levels are hundredths of a decibel; BELOW_SCALE stands for 'below scale', and NOTHING for no Lmax.
+// the refusal, and a refused call leaves all that it was lent as it was. Levels are hundredths of a decibel; BELOW_SCALE stands for 'below scale', and NO_LMAX for no Lmax.
 ghost use mathlib.Core.Path.{_≡_};
 ghost use Prim.Native.Nat.{_+_, _*_, _<_, _≤_};
 ghost use Rattle.quantity.specs.Answers.{reading, methodNumber, highestReading};
@@ -62,7 +62,7 @@ use quantity::Tick;
 const BELOW_SCALE: i32 = -2147483648;
 
 // What stands for no Lmax.
-const NOTHING: u32 = 4294967295;
+const NO_LMAX: u32 = 4294967295;
 
 // What stands for no margin.
 const NO_MARGIN: i32 = 2147483647;
@@ -98,7 +98,7 @@ pub fn level_bits(level: Reading) -> u32
 fn highest_from(n: u32) -> HighestLevel
     ensures { λ r. ⌜ highestReading r ≡ highestFrom n ⌝ }
 {
-    if n == NOTHING {
+    if n == NO_LMAX {
         return HighestLevel::Nothing;
     }
     HighestLevel::At(Level(n))
@@ -109,7 +109,7 @@ pub fn highest_number(highest: HighestLevel) -> u32
 {
     match highest {
         HighestLevel::At(at) => at.0,
-        HighestLevel::Nothing => NOTHING,
+        HighestLevel::Nothing => NO_LMAX,
     }
 }
 

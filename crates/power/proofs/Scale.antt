@@ -37,10 +37,14 @@ X-below-e K c =
 pub e-below-X : (K c : ℕ) → e c * 10 ^ K < (X K c + 1) * G
 e-below-X K c = cross (lit< tt) (e-cut c) (X-cut K c)
 
+-- a mantissa, by its thousandth power and that of the next number
+pub m-is : (f p : ℕ) → p ^ 1000 ≤ 10 ^ (9000 + f) → 10 ^ (9000 + f) < (p + 1) ^ 1000 → m f ≡ p
+unfolding X
+m-is f p low high = sym (root-only 1000 (10 ^ (9000 + f)) p (lit< tt) low high)
+
 -- one level more is once more the power at level 1
 m-one : m 1 ≡ 1002305238
-unfolding X
-m-one = sym (root-only 1000 (10 ^ 9001) 1002305238 (lit< tt) (lit≤ tt) (lit< tt))
+m-one = m-is 1 1002305238 (lit≤ tt) (lit< tt)
 
 next-cut : (c : ℕ) → Cut (G * G) (c + 1) (e c * 1002305238) (past c * 1002305239)
 next-cut c = join (e-cut c) (rw m-one at (X-cut 9 1))
@@ -64,12 +68,10 @@ below-e (suc c) = rw (← add-one c) (omega (arith, below-e c, e-rises c))
 
 -- the mantissas at both ends of a thousand levels
 pub m-zero : m 0 ≡ G
-unfolding X
-m-zero = sym (root-only 1000 (10 ^ 9000) G (lit< tt) (lit≤ tt) (lit< tt))
+m-zero = m-is 0 G (lit≤ tt) (lit< tt)
 
 pub m-thousand : m 1000 ≡ 10 * G
-unfolding X
-m-thousand = sym (root-only 1000 (10 ^ 10000) (10 * G) (lit< tt) (lit≤ tt) (lit< tt))
+m-thousand = m-is 1000 (10 * G) (lit≤ tt) (lit< tt)
 
 pub e-zero : e 0 ≡ G
 unfolding e

@@ -1,27 +1,24 @@
 -- Mantissas, powers and levels of given numbers. A level is read off by computed tests: whether M * e(c) ≤ S is a comparison of thousandth
 -- powers, in which no mantissa stands.
-use mathlib.Core.Path.{_≡_, refl, sym, ap, _∙_}
-use mathlib.Core.Bool.{Bool, true, false, _&&_, not}
+use mathlib.Core.Path.{_≡_, sym, ap, _∙_}
+use mathlib.Core.Bool.{Bool, _&&_, not}
 use mathlib.Core.Option.{some, none}
 use Prim.Native.Nat.{ℕ, _+_, _*_, _/_, _%_, _^_, _≤_, _<_}
 use native.Mathlib.Nat.{add-zero, mul-left-comm, mul-le-mul, one-le-pow, lt-of-le-of-lt, le-div-iff-mul-le, div-lt-iff-lt-mul}
 use native.Mathlib.Omega.{arith}
+use borrow.Author.Tests.{not-true}
+use lib.Ieee.Bits.{is-true}
 use lib.Dec.{T, ltb, ltb→lt, nltb→le, lit<, lit≤}
 use Rattle.quantity.specs.Answers.{Reading, level, below-scale}
 use Rattle.quantity.specs.Scale.{raised, isUnderScale}
 use Rattle.quantity.proofs.Scale.{lowered-raised}
 use Rattle.power.specs.Power.{X, m, e, G}
 use Rattle.power.proofs.Arithmetic.{lt-of-pow}
-use Rattle.power.proofs.Search.{root-law, root-only}
+use Rattle.power.proofs.Search.{root-law}
 use Rattle.power.proofs.Table.{both}
 use Rattle.power.proofs.Scale.{m-zero, e-at}
 use Rattle.level.specs.Level.{readingAt, largestLevel}
 use Rattle.level.proofs.Answer.{answered}
-
--- a mantissa, by its thousandth power and that of the next number
-pub m-is : (f p : ℕ) → p ^ 1000 ≤ 10 ^ (9000 + f) → 10 ^ (9000 + f) < (p + 1) ^ 1000 → m f ≡ p
-unfolding X
-m-is f p low high = sym (root-only 1000 (10 ^ (9000 + f)) p (lit< tt) low high)
 
 -- a power at whole tens of decibels
 pub e-tens : (q : ℕ) → e (1000 * q) ≡ G * 10 ^ q
@@ -52,10 +49,6 @@ module _ (M S c : ℕ) (p : 0 < M) where
       rw (mul-left-comm M (m (c % 1000)) (10 ^ (c / 1000)))
       (div-lt-iff-lt-mul positive .0 (omega (arith, lt-of-pow 1000 (lt-of-le-of-lt (nltb→le _ _ t) (mantissa-root .1)))))
 
-fails : (b : Bool) → T (not b) → b ≡ false
-fails true t = absurd t
-fails false t = refl
-
 -- the tests of a level, raised by 5000, or of 'below scale'
 abbrev isAnswer : (d M S : ℕ) → Reading → Bool
 isAnswer d M S (level r) = not (isUnderScale r) && (isReached M S (raised r + d) && not (isReached M S (raised r + 1 + d)))
@@ -73,5 +66,5 @@ read d M S a t = go a (both (ltb 0 M) (isAnswer d M S a) t .1)
         let scale = both (not (isUnderScale r)) (isReached M S (raised r + d) && not (isReached M S (raised r + 1 + d))) u in
         let b = both (isReached M S (raised r + d)) (not (isReached M S (raised r + 1 + d))) (scale .1) in
         ap readingAt (sym (answered d M S (some (raised r)) p (reached M S (raised r + d) p (b .0), missed M S (raised r + 1 + d) p (b .1))))
-        ∙ ap level (lowered-raised r (fails (isUnderScale r) (scale .0)))
+        ∙ ap level (lowered-raised r (not-true (isUnderScale r) (is-true (not (isUnderScale r)) (scale .0))))
     go below-scale u = ap readingAt (sym (answered d M S none p (missed M S d p u)))

@@ -5,13 +5,14 @@ use Prim.Native.Nat.{ℕ}
 use lib.Dec.{lit<, lit≤}
 use Rattle.quantity.specs.Answers.{Reading}
 use Rattle.quantity.specs.Rules.{firstOf, given}
+use Rattle.power.proofs.Scale.{m-is}
 use Rattle.limbs.specs.Value.{value, limbsOf}
 use Rattle.decades.specs.Decades.{energies}
 use Rattle.ledger.specs.Book.{sumOf}
 use Rattle.method.specs.Method.{sharesHold}
 use Rattle.mean.specs.Mean.{meanOf, sumOfPowers, anyOutside}
 use Rattle.starred.specs.Starred.{starred, AllHold, closes}
-use Rattle.starred.proofs.Levels.{m-is, e-tens, read}
+use Rattle.starred.proofs.Levels.{e-tens, read}
 
 -- Ldn, in what closing answers
 with-ldn : {a b : Reading} {method dayEvents nightEvents : ℕ} {highest : Option ℕ}
