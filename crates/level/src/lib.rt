@@ -13,10 +13,10 @@ ghost use Rattle.level.specs.Leading.{Leads, Between, Found, without};
 use quantity::Reading;
 
 // The first mantissa, m(0).
-const UNIT: u64 = 1000000000;
+pub const UNIT: u64 = 1000000000;
 
 // The depth of the scale below 0 as a factor of energies: 50 dB are five decades.
-const DEPTH_FACTOR: u32 = 100000;
+pub const DEPTH_FACTOR: u32 = 100000;
 
 // The turns that close any range of the thousand mantissas, since each turn halves it: 2^10 is 1024.
 const MOST_TURNS: u32 = 10;
