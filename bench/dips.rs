@@ -19,7 +19,7 @@ fn helicopter(random: &mut Random, start: i32) -> Offer {
             *s = random.below(100) as u16;
         }
     }
-    Offer { start, class: 0, samples }
+    Offer { start, class: 0, tolerance: 0, samples }
 }
 
 /// The lowest level of the stretch but for its dips, and the samples of the dips.
@@ -49,7 +49,7 @@ pub fn day_without_dips() -> Vec<Offer> {
 pub fn time() {
     let (with, without) = (day_of_helicopters(), day_without_dips());
     let in_dips: usize = with.iter().zip(&without).map(|(a, b)| a.samples.iter().zip(&b.samples).filter(|(s, t)| s != t).count()).sum();
-    println!("2000 helicopters of 600 samples, of which {} samples are in dips; accepted and Ldn of each program: {:?}", in_dips, answers(&with));
+    println!("2000 helicopters of 600 samples, of which {} samples are in dips; accepted, and Ldn with the lowest and the highest one, of each program: {:?}", in_dips, answers(&with));
     println!("the same with the dips filled up to 10 dB below Lmax: {:?}", answers(&without));
     println!();
     heading();

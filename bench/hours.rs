@@ -10,7 +10,7 @@ extern "C" {
 type Program = unsafe extern "C" fn(*const u32, u32, *mut u64);
 
 /// Where the energies of the hours begin among a day's words, by day and by night: four words an hour (crates/day_words/specs/Words.antt).
-const BEGINNINGS: [usize; 2] = [32, 160];
+const BEGINNINGS: [usize; 2] = [32, 168];
 
 unsafe extern "C" fn plain(day: *const u32, hour: u32, energy: *mut u64) {
     let mut sum = 0u128;

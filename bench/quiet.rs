@@ -8,7 +8,7 @@ fn faint(random: &mut Random) -> Offer {
     let mut samples = vec![0, lmax];
     samples.extend((0..random.below(8)).map(|_| lmax - random.below(1001) as u16));
     samples.push(0);
-    Offer { start: 1728000, class: 0, samples }
+    Offer { start: 1728000, class: 0, tolerance: 0, samples }
 }
 
 /// LAE and Ldn of each day, and the mean of each year.
@@ -17,7 +17,7 @@ fn levels<L: Ledger>(offers: &[Offer]) -> [Vec<Option<i32>>; 3] {
         .iter()
         .map(|offer| {
             let mut day = L::open(&[1], &[0]);
-            (day.offer(offer).unwrap().0, day.close().unwrap())
+            (day.offer(offer).unwrap().0, day.close().unwrap()[0])
         })
         .unzip();
     let years = days.chunks(366).map(|year| L::mean(&L::year_of(year))).collect();

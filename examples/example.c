@@ -1,6 +1,6 @@
-/* Opens a day, offers two fly-overs, asks for the energy of their hours, closes it, forms a year of such days and its verdict, holds the tower's log against
- * the fly-overs, opens the next day, with a fly-over at midnight, closes a quiet day, whose level is negative, and asks for the level at thrusts and for the
- * correction at angles. Built and run by examples/run_c. */
+/* Opens a day, offers two fly-overs of meters with a stated tolerance, asks for the energy of their hours, closes it, with the lowest and the highest Ldn,
+ * forms a year of such days and its verdict, holds the tower's log against the fly-overs, opens the next day, with a fly-over at midnight, closes a quiet day,
+ * whose level is negative, and asks for the level at thrusts and for the correction at angles. Built and run by examples/run_c. */
 #include "moatburdock.h"
 
 #include <inttypes.h>
@@ -52,18 +52,19 @@ static int quiet_verdict(const uint64_t *records, size_t count) {
     return 0;
 }
 
-/* A day at a gliding field, with forty samples a second and one faint fly-over: its mean alone, and with a day on which nothing flies, which adds nothing and
- * counts as a day. */
+/* A day at a gliding field, with forty samples a second and one faint fly-over of a meter of 0.40 dB, so that the lowest Ldn is below scale: its mean alone,
+ * and with a day on which nothing flies, which adds nothing and counts as a day. */
 static int quiet_days(void) {
     const uint16_t daytime[] = {1}, night[] = {0}, samples[] = {300, 550, 1560, 420, 300};
     uint32_t day[MOATBURDOCK_DAY_WORDS] = {0}, lmax = 0, counts[3] = {0}, highest_by_class[MOATBURDOCK_CLASSES] = {0};
-    int32_t exposure = 0;
+    int32_t exposure = 0, lowest_ldn = 0, highest_ldn = 0;
     uint64_t records[2] = {0, MOATBURDOCK_RECORD(MOATBURDOCK_BELOW_SCALE, 1)};
     if (failed("opening", moatburdock_open_day(day, 40, 864000, 3167999, -24000, daytime, 1, night, 1))
-        || failed("the offer", moatburdock_offer(day, 1440000, 0, 4, false, 0, samples, 5, &exposure, &lmax))
-        || failed("closing", moatburdock_close_day(day, 9400, 9400, &records[0], counts, highest_by_class)))
+        || failed("the offer", moatburdock_offer(day, 1440000, 0, 4, false, 0, 40, samples, 5, &exposure, &lmax))
+        || failed("closing", moatburdock_close_day(day, 9400, 9400, &records[0], &lowest_ldn, &highest_ldn, counts, highest_by_class)))
         return 1;
-    printf("a quiet day: LAE %s, Ldn %s\n", text_of(exposure).of, text_of(MOATBURDOCK_LEVEL_OF(records[0])).of);
+    printf("a quiet day: LAE %s, Ldn %s, within the tolerance %s to %s\n", text_of(exposure).of, text_of(MOATBURDOCK_LEVEL_OF(records[0])).of,
+           text_of(lowest_ldn).of, text_of(highest_ldn).of);
     return quiet_verdict(records, 1) || quiet_verdict(records, 2);
 }
 
@@ -108,6 +109,7 @@ int main(void) {
     const uint16_t daytime[] = {1, 0}, night[] = {0, 1};
     const uint16_t samples[] = {6000, 8000, 8000, 8000, 6000};
     const int32_t starts[] = {432000, 863997};
+    const uint16_t tolerances[] = {70, 110};
     uint32_t day[MOATBURDOCK_DAY_WORDS] = {0};
 
     /* Ten samples a second, daytime from 06:00 to 22:00; nothing is known of a day before. */
@@ -116,19 +118,21 @@ int main(void) {
     for (uint8_t i = 0; i < 2; i++) {
         int32_t exposure = 0;
         uint32_t lmax = 0;
-        if (failed("the offer", moatburdock_offer(day, starts[i], i, 30, false, 6000, samples, 5, &exposure, &lmax)))
+        if (failed("the offer", moatburdock_offer(day, starts[i], i, 30, false, 6000, tolerances[i], samples, 5, &exposure, &lmax)))
             return 1;
-        printf("fly-over %d: LAE %s, Lmax %u.%02u dB\n", i + 1, text_of(exposure).of, lmax / 100, lmax % 100);
+        printf("fly-over %d: LAE %s, Lmax %u.%02u dB, with a meter of %.2f dB\n", i + 1, text_of(exposure).of, lmax / 100, lmax % 100, tolerances[i] / 100.0);
     }
 
     energies_of_hours(day);
 
     uint64_t record = 0;
+    int32_t lowest_ldn = 0, highest_ldn = 0;
     uint32_t counts[3] = {0}, highest_by_class[MOATBURDOCK_CLASSES] = {0};
-    if (failed("closing", moatburdock_close_day(day, 9400, 9400, &record, counts, highest_by_class)))
+    if (failed("closing", moatburdock_close_day(day, 9400, 9400, &record, &lowest_ldn, &highest_ldn, counts, highest_by_class)))
         return 1;
     printf("the day: Ldn %s by method %u, %u event by day, %u by night\n", text_of(MOATBURDOCK_LEVEL_OF(record)).of, MOATBURDOCK_METHOD_OF(record), counts[0],
            counts[1]);
+    printf("within the tolerances of the meters: Ldn from %s to %s\n", text_of(lowest_ldn).of, text_of(highest_ldn).of);
     for (int class = 0; class < MOATBURDOCK_CLASSES; class++)
         if (highest_by_class[class] != MOATBURDOCK_NO_LMAX)
             printf("class %d: highest Lmax %u.%02u dB\n", class, highest_by_class[class] / 100, highest_by_class[class] % 100);
@@ -170,12 +174,13 @@ int main(void) {
     if (failed("opening the next day", moatburdock_open_day(next_day, 10, 216000, 791999, end, daytime, 2, night, 2)))
         return 1;
     printf("the next day is opened with the end %d\n", end);
-    printf("the fly-over at midnight again: refusal %u\n", moatburdock_offer(next_day, -3, 1, 30, false, 6000, samples, 5, &exposure, &lmax));
-    if (failed("the offer", moatburdock_offer(next_day, 0, 1, 30, false, 6000, samples, 5, &exposure, &lmax)))
+    printf("the fly-over at midnight again: refusal %u\n", moatburdock_offer(next_day, -3, 1, 30, false, 6000, 110, samples, 5, &exposure, &lmax));
+    if (failed("the offer", moatburdock_offer(next_day, 0, 1, 30, false, 6000, 110, samples, 5, &exposure, &lmax)))
         return 1;
     printf("a fly-over from that end on: LAE %s\n", text_of(exposure).of);
 
     printf("a day of 30 samples a second: refusal %u\n", moatburdock_open_day(day, 30, 216000, 791999, -18000, daytime, 2, night, 2));
-    printf("a second fly-over at noon: refusal %u\n", moatburdock_offer(day, 432000, 0, 30, false, 6000, samples, 5, &exposure, &lmax));
+    printf("a second fly-over at noon: refusal %u\n", moatburdock_offer(day, 432000, 0, 30, false, 6000, 70, samples, 5, &exposure, &lmax));
+    printf("one with a meter of 3.01 dB: refusal %u\n", moatburdock_offer(day, 432000, 0, 30, false, 6000, 301, samples, 5, &exposure, &lmax));
     return quiet_days() || levels_at_thrusts() || corrections_at_angles();
 }

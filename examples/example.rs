@@ -1,15 +1,16 @@
-// Opens a day, offers two fly-overs, asks for the energy of their hours, closes it, forms a year of such days, holds the tower's log against the fly-overs,
-// opens the next day, with a fly-over at midnight, closes a quiet day, whose level is negative, and asks for the level at thrusts and for the correction at
-// angles. Built and run by examples/run_rust.
+// Opens a day, offers two fly-overs of meters with a stated tolerance, asks for the energy of their hours, closes it, with the lowest and the highest Ldn,
+// forms a year of such days, holds the tower's log against the fly-overs, opens the next day, with a fly-over at midnight, closes a quiet day, whose level is
+// negative, and asks for the level at thrusts and for the correction at angles. Built and run by examples/run_rust.
 #[link(name = "moatburdock", kind = "static")]
 extern "C" {
     fn moatburdock_open_day(day: *mut u32, rate: u32, first: u32, last: u32, end: i32, daytime: *const u16, classes: usize, night: *const u16,
         others: usize) -> u8;
     fn moatburdock_end_for_next_day(day: *const u32) -> i32;
-    fn moatburdock_offer(day: *mut u32, start: i32, class: u8, wind: u16, wet: bool, background: u32, samples: *const u16, count: usize,
+    fn moatburdock_offer(day: *mut u32, start: i32, class: u8, wind: u16, wet: bool, background: u32, tolerance: u16, samples: *const u16, count: usize,
         exposure: *mut i32, lmax: *mut u32) -> u8;
     fn moatburdock_hour_energy(day: *const u32, hour: u32, energy: *mut u64);
-    fn moatburdock_close_day(day: *const u32, before: u32, after: u32, record: *mut u64, counts: *mut u32, highest_by_class: *mut u32) -> u8;
+    fn moatburdock_close_day(day: *const u32, before: u32, after: u32, record: *mut u64, lowest_ldn: *mut i32, highest_ldn: *mut i32, counts: *mut u32,
+        highest_by_class: *mut u32) -> u8;
     fn moatburdock_year_mean(records: *const u64, count: usize, level: *mut i32) -> u8;
     fn moatburdock_verdict(class: u8, yearly: i32, sensitive: bool, lmax: u32, finding: *mut u8, margin: *mut i32) -> u8;
     fn moatburdock_pair_movements(movements: *const i32, movement_count: usize, peaks: *const i32, peak_count: usize, tolerance: u32,
@@ -76,6 +77,14 @@ fn margin(class: u8, yearly: Level) -> Result<Option<i32>, Refused> {
 #[derive(Clone, Copy)]
 struct Settings(u32, u32, u32);
 
+/// What a closing gives: the day's record, the lowest and the highest Ldn within the tolerances of the meters, and the highest Lmax of each class.
+struct Closing {
+    record: u64,
+    lowest: Level,
+    highest: Level,
+    highest_by_class: [Option<u32>; 16],
+}
+
 /// A day, in memory of its own.
 struct Day([u32; 320]);
 
@@ -96,11 +105,11 @@ impl Day {
         unsafe { moatburdock_end_for_next_day(self.0.as_ptr()) }
     }
 
-    /// LAE and Lmax of a fly-over.
-    fn offer(&mut self, start: i32, class: u8, background: u32, samples: &[u16]) -> Result<(Level, u32), Refused> {
+    /// LAE and Lmax of a fly-over, recorded by a meter of some tolerance.
+    fn offer(&mut self, start: i32, class: u8, background: u32, tolerance: u16, samples: &[u16]) -> Result<(Level, u32), Refused> {
         let (mut exposure, mut lmax) = (0, 0);
         checked(unsafe {
-            moatburdock_offer(self.0.as_mut_ptr(), start, class, 30, false, background, samples.as_ptr(), samples.len(), &mut exposure, &mut lmax)
+            moatburdock_offer(self.0.as_mut_ptr(), start, class, 30, false, background, tolerance, samples.as_ptr(), samples.len(), &mut exposure, &mut lmax)
         })?;
         Ok((Level::from(exposure), lmax))
     }
@@ -112,11 +121,13 @@ impl Day {
         (halves[1] as u128) << 64 | halves[0] as u128
     }
 
-    /// The day's record, and the highest Lmax of each class.
-    fn close(&self) -> Result<(u64, [Option<u32>; 16]), Refused> {
-        let (mut record, mut counts, mut levels) = (0, [0; 3], [0; 16]);
-        checked(unsafe { moatburdock_close_day(self.0.as_ptr(), 9400, 9400, &mut record, counts.as_mut_ptr(), levels.as_mut_ptr()) })?;
-        Ok((record, levels.map(|level| (level != u32::MAX).then_some(level))))
+    fn close(&self) -> Result<Closing, Refused> {
+        let (mut record, mut lowest, mut highest, mut counts, mut levels) = (0, 0, 0, [0; 3], [0; 16]);
+        checked(unsafe {
+            moatburdock_close_day(self.0.as_ptr(), 9400, 9400, &mut record, &mut lowest, &mut highest, counts.as_mut_ptr(), levels.as_mut_ptr())
+        })?;
+        let highest_by_class = levels.map(|level| (level != u32::MAX).then_some(level));
+        Ok(Closing { record, lowest: Level::from(lowest), highest: Level::from(highest), highest_by_class })
     }
 }
 
@@ -130,13 +141,13 @@ fn paired(movements: &[i32], peaks: &[i32], tolerance: u32) -> Result<Vec<Option
     Ok(movement_marks.into_iter().map(|mark| (mark != 0).then_some(mark)).collect())
 }
 
-/// A day at a gliding field, with forty samples a second and one faint fly-over: its mean alone, and with a day on which nothing flies, which adds nothing and
-/// counts as a day.
+/// A day at a gliding field, with forty samples a second and one faint fly-over of a meter of 0.40 dB, so that the lowest Ldn is below scale: its mean alone,
+/// and with a day on which nothing flies, which adds nothing and counts as a day.
 fn show_quiet_days() -> Result<(), Refused> {
     let mut day = Day::open(Settings(40, 864000, 3167999), None, &[1], &[0])?;
-    let (exposure, _) = day.offer(1440000, 0, 0, &[300, 550, 1560, 420, 300])?;
-    let (record, _) = day.close()?;
-    println!("a quiet day: LAE {}, Ldn {}", exposure, level_of(record));
+    let (exposure, _) = day.offer(1440000, 0, 0, 40, &[300, 550, 1560, 420, 300])?;
+    let Closing { record, lowest, highest, .. } = day.close()?;
+    println!("a quiet day: LAE {}, Ldn {}, within the tolerance {} to {}", exposure, level_of(record), lowest, highest);
     let records = [record, record_of(Level(None), 1)];
     for count in [1, 2] {
         let yearly = year_mean(&records[..count])?;
@@ -206,16 +217,17 @@ fn main() -> Result<(), Refused> {
     // Ten samples a second, daytime from 06:00 to 22:00.
     let settings = Settings(10, 216000, 791999);
     let mut day = Day::open(settings, None, &[1], &[1])?;
-    for start in [432000, 863997] {
-        let (exposure, lmax) = day.offer(start, 0, 6000, &samples)?;
-        println!("a fly-over at {}: LAE {}, Lmax {:.2} dB", start, exposure, lmax as f64 / 100.0);
+    for (start, tolerance) in [(432000, 70), (863997, 110)] {
+        let (exposure, lmax) = day.offer(start, 0, 6000, tolerance, &samples)?;
+        println!("a fly-over at {}: LAE {}, Lmax {:.2} dB, with a meter of {:.2} dB", start, exposure, lmax as f64 / 100.0, tolerance as f64 / 100.0);
     }
     for hour in [12, 23] {
         let energy = day.hour_energy(hour);
         println!("hour {}: energy {}, an exposure of {:.2} dB", hour, energy, 10.0 * (energy as f64 / 1e9 / 10.0).log10());
     }
-    let (record, highest_by_class) = day.close()?;
+    let Closing { record, lowest, highest, highest_by_class } = day.close()?;
     println!("the day: Ldn {} by method {}", level_of(record), record >> 32);
+    println!("within the tolerances of the meters: Ldn from {} to {}", lowest, highest);
     for (class, level) in highest_by_class.iter().enumerate().filter_map(|(class, level)| level.map(|level| (class, level))) {
         println!("class {}: highest Lmax {:.2} dB", class, level as f64 / 100.0);
     }
@@ -227,15 +239,18 @@ fn main() -> Result<(), Refused> {
     // The same fly-over, its start counted from the new midnight, belongs to the day before; one that begins at the end of that day is accepted.
     let mut next_day = Day::open(settings, Some(&day), &[1], &[1])?;
     println!("the next day is opened with the end {}", day.end_for_next_day());
-    if let Err(Refused(number)) = next_day.offer(-3, 0, 6000, &samples) {
+    if let Err(Refused(number)) = next_day.offer(-3, 0, 6000, 110, &samples) {
         println!("the fly-over at midnight again: refusal {}", number);
     }
-    println!("a fly-over from that end on: LAE {}", next_day.offer(0, 0, 6000, &samples)?.0);
+    println!("a fly-over from that end on: LAE {}", next_day.offer(0, 0, 6000, 110, &samples)?.0);
     if let Err(Refused(number)) = Day::open(Settings(20, 432000, 1728000), None, &[1], &[1]) {
         println!("a last daytime tick behind the day: refusal {}", number);
     }
-    if let Err(Refused(number)) = day.offer(432000, 0, 6000, &samples) {
+    if let Err(Refused(number)) = day.offer(432000, 0, 6000, 70, &samples) {
         println!("a second fly-over at noon: refusal {}", number);
+    }
+    if let Err(Refused(number)) = day.offer(432000, 0, 6000, 301, &samples) {
+        println!("one with a meter of 3.01 dB: refusal {}", number);
     }
     show_quiet_days()?;
     show_levels()?;

@@ -1,5 +1,6 @@
 /* Reads a day file in odd pieces, as a slow transport delivers it, and prints the line of each event and of the day; then on standard error how many events
- * there are, the lowest and the highest LAE, and Ldn. Built and run by examples/run_c. */
+ * there are, the lowest and the highest LAE, Ldn, and the lowest and the highest Ldn within the tolerances of the meters, which are in no line. Built and run
+ * by examples/run_c. */
 #include "moatburdock.h"
 
 #include <stdio.h>
@@ -28,7 +29,8 @@ int main(int argc, char **argv) {
     size_t count = 0, turn = 0;
     bool ended = false;
     unsigned events = 0, accepted = 0;
-    int32_t lowest = INT32_MAX, highest = MOATBURDOCK_BELOW_SCALE, ldn = MOATBURDOCK_BELOW_SCALE;
+    int32_t lowest = INT32_MAX, highest = MOATBURDOCK_BELOW_SCALE;
+    int32_t ldn = MOATBURDOCK_BELOW_SCALE, lowest_ldn = MOATBURDOCK_BELOW_SCALE, highest_ldn = MOATBURDOCK_BELOW_SCALE;
     bool closed = false;
     uint8_t came;
 
@@ -52,6 +54,8 @@ int main(int argc, char **argv) {
         if (came == MOATBURDOCK_CLOSED && numbers[0] == 0) {
             closed = true;
             ldn = MOATBURDOCK_SIGNED(numbers[1]);
+            lowest_ldn = MOATBURDOCK_SIGNED(numbers[6]);
+            highest_ldn = MOATBURDOCK_SIGNED(numbers[7]);
         }
 
         count -= used;
@@ -71,8 +75,11 @@ int main(int argc, char **argv) {
         show_level("lowest LAE", lowest);
         show_level("highest LAE", highest);
     }
-    if (closed)
+    if (closed) {
         show_level("Ldn", ldn);
+        show_level("lowest Ldn", lowest_ldn);
+        show_level("highest Ldn", highest_ldn);
+    }
     fprintf(stderr, "\n");
     fclose(file);
     return 0;

@@ -4,10 +4,11 @@
  * nothing but memcpy and memset: all that it reads and writes is what it is lent here. An offer takes 14 kB of stack, and a step of the reader, which has a
  * room for the longest window of its own, 69 kB.
  *
- * Levels are hundredths of a decibel, wind tenths of m/s. Samples, backgrounds, calibration levels and Lmax are 0 or more. LAE, Ldn and the means have a sign:
- * their scale begins at -5000, that is -50 dB, and whatever is less is below scale. Times are ticks after local midnight, negative before it, and a tick is one
- * sample: a tenth, a twentieth or a fortieth of a second, by the rate with which a day is opened. A fly-over belongs to the day of its peak, whole. In
- * moatburdock_level_at_thrust and moatburdock_correction_at_angle alone there are doubles: levels and corrections in dB, thrusts in kN, angles in degrees.
+ * Levels and the tolerances of meters are hundredths of a decibel, wind tenths of m/s. Samples, backgrounds, calibration levels and Lmax are 0 or more. LAE,
+ * Ldn and the means have a sign: their scale begins at -5000, that is -50 dB, and whatever is less is below scale. Times are ticks after local midnight,
+ * negative before it, and a tick is one sample: a tenth, a twentieth or a fortieth of a second, by the rate with which a day is opened. A fly-over belongs to
+ * the day of its peak, whole. In moatburdock_level_at_thrust and moatburdock_correction_at_angle alone there are doubles: levels and corrections in dB, thrusts
+ * in kN, angles in degrees.
  *
  * Every function but moatburdock_end_for_next_day, moatburdock_hour_energy and the two of the reader answers 0, or the number of the refusal. A refused call
  * leaves all that it was lent as it was. Of the arguments only this is required: pointers to as many elements as are stated, all of them initialised, and none
@@ -80,7 +81,8 @@ enum moatburdock_refusal {
     MOATBURDOCK_ROWS_UNFIT,             /* fewer than 2 or more than 32 rows, unequal counts of thrusts and levels, thrusts that do not rise strictly within
                                            0 to 1000, or a level outside 0 to 140 */
     MOATBURDOCK_THRUST_OUTSIDE,         /* a thrust that is not between the first and the last of the rows */
-    MOATBURDOCK_ANGLE_OUTSIDE           /* an angle that is not from 0 to 180 */
+    MOATBURDOCK_ANGLE_OUTSIDE,          /* an angle that is not from 0 to 180 */
+    MOATBURDOCK_TOLERANCE_TOO_LARGE     /* the tolerance of an offer above 300; an offer is checked for it straight after MOATBURDOCK_LEVEL_TOO_HIGH, 4 */
 };
 
 /* What a verdict names. */
@@ -112,10 +114,15 @@ uint8_t moatburdock_open_day(uint32_t day[MOATBURDOCK_DAY_WORDS], uint32_t rate,
 /* Offers a fly-over: a window of A-levels, one a tick, that begins at start. Its peak is in the day; the window may begin before midnight and end after the
  * day. Its stretch runs from the first to the last sample that is at most 1000, that is 10 dB, below Lmax, both in; samples that dip lower in between belong to
  * it and add their energy. Accepted, it is added to the day, and the exposure level LAE of its stretch and Lmax are given. What is accepted has an Lmax of 1500
- * or more, so that LAE is never below scale: at 10, 20 and 40 samples a second it is 500, 198 and -103 at the least. Refusals 1 to 9, the first in their order
- * that holds. */
+ * or more, so that LAE is never below scale: at 10, 20 and 40 samples a second it is 500, 198 and -103 at the least.
+ *
+ * The tolerance is that of the meter, from 0 to 300, that is 3 dB, as its calibration certificate states it; pass 0 where none is stated. Each fly-over has its
+ * own. Peak, Lmax, stretch, period, LAE, the energies of the hours and all refusals but 23 are those of the samples as they were recorded, whatever the
+ * tolerance. What it moves is the lowest and the highest Ldn of moatburdock_close_day.
+ *
+ * Refusals 1 to 4, 23, then 5 to 9: the first in this order that holds. */
 uint8_t moatburdock_offer(uint32_t day[MOATBURDOCK_DAY_WORDS], int32_t start, uint8_t flight_class, uint16_t wind, bool wet, uint32_t background,
-                          const uint16_t *samples, size_t sample_count, int32_t *exposure, uint32_t *lmax);
+                          uint16_t tolerance, const uint16_t *samples, size_t sample_count, int32_t *exposure, uint32_t *lmax);
 
 /* The end to open the next day with: that of the day's last accepted stretch, in ticks after the next midnight, or -600 times the rate where no fly-over is
  * accepted. Never refused: what is answered is the end itself. The day is read and not changed. With it no stretch of one day overlaps a stretch of the next,
@@ -137,12 +144,17 @@ int32_t moatburdock_end_for_next_day(const uint32_t day[MOATBURDOCK_DAY_WORDS]);
  * neither. On words that no call wrote the energy is taken modulo 2^128. */
 void moatburdock_hour_energy(const uint32_t day[MOATBURDOCK_DAY_WORDS], uint32_t hour, uint64_t energy[2]);
 
-/* Closes a day, with the calibration levels before and after it: gives the day's record (Ldn and its method), in counts the events by day, those by
- * night, and the highest Lmax (or MOATBURDOCK_NO_LMAX), and the highest Lmax of each class (or MOATBURDOCK_NO_LMAX; so for every class beyond the book).
- * Ldn is below scale on a day without fly-overs, and where they come to less than -50 dB. The day is read and not changed; more offers may follow. Refusals
- * 11, then 12. */
-uint8_t moatburdock_close_day(const uint32_t day[MOATBURDOCK_DAY_WORDS], uint32_t before, uint32_t after, uint64_t *day_record, uint32_t counts[3],
-                              uint32_t highest_by_class[MOATBURDOCK_CLASSES]);
+/* Closes a day, with the calibration levels before and after it: gives the day's record (Ldn and its method), the lowest and the highest Ldn within the
+ * tolerances of the meters, in counts the events by day, those by night, and the highest Lmax (or MOATBURDOCK_NO_LMAX), and the highest Lmax of each class (or
+ * MOATBURDOCK_NO_LMAX; so for every class beyond the book). Ldn is below scale on a day without fly-overs, and where they come to less than -50 dB. The day is
+ * read and not changed; more offers may follow. Refusals 11, then 12, which leave the places of all of these as they were.
+ *
+ * The lowest Ldn is formed as Ldn is, by the same method, of each sample of the accepted stretches less the tolerance of its own fly-over, but not under 0; the
+ * highest of each sample plus that tolerance, but not over 14000. Either may be MOATBURDOCK_BELOW_SCALE, which counts as lowest of all. It is proved that every
+ * day with the same book, rate, stretches, periods and method whose samples lie in these ranges has its Ldn between the two, by either method; so has the day
+ * itself, and where all tolerances are 0 the three are the same. */
+uint8_t moatburdock_close_day(const uint32_t day[MOATBURDOCK_DAY_WORDS], uint32_t before, uint32_t after, uint64_t *day_record, int32_t *lowest_ldn,
+                              int32_t *highest_ldn, uint32_t counts[3], uint32_t highest_by_class[MOATBURDOCK_CLASSES]);
 
 /* The mean of a week, of exactly 7 records, and of a year, of 1 to 366 (formulas 6-5 and 6-6): a level, or MOATBURDOCK_BELOW_SCALE. A record below scale
  * adds nothing and counts as a day, so that a mean may be below scale though some of its days are not. Refusals 13, then 14. */
@@ -200,21 +212,22 @@ uint8_t moatburdock_correction_at_angle(double angle, uint8_t *position, double 
 #define MOATBURDOCK_READER_WORDS 336
 
 /* The bytes of the longest event of the fastest rate: a step on a window of as many never asks for more. */
-#define MOATBURDOCK_LONGEST_RECORD 48012
+#define MOATBURDOCK_LONGEST_RECORD 48014
 
 /* The numbers of a step, and the bytes of a line. */
-#define MOATBURDOCK_STEP_NUMBERS 6
+#define MOATBURDOCK_STEP_NUMBERS 8
 #define MOATBURDOCK_LINE_BYTES 64
 
-/* What came of a step, with its numbers. The first is 0 or the number of a refusal; those that are not named are 0. LAE and Ldn are in 32 bits, two's
- * complement: MOATBURDOCK_SIGNED of the number is the level. */
+/* What came of a step, with its numbers. The first is 0 or the number of a refusal; those that are not named are 0. LAE, Ldn and the lowest and the highest Ldn
+ * are in 32 bits, two's complement: MOATBURDOCK_SIGNED of the number is the level. */
 enum moatburdock_came {
     MOATBURDOCK_MORE = 0,               /* the window holds too little, and the file goes on: nothing is used up */
     MOATBURDOCK_STARTED,                /* what stands before the events is read */
-    MOATBURDOCK_EVENT,                  /* 0 or refusal 1 to 9, the event's number from 1; where it is accepted LAE, Lmax */
+    MOATBURDOCK_EVENT,                  /* 0 or refusal 1 to 9 or 23, the event's number from 1; where it is accepted LAE, Lmax */
     MOATBURDOCK_CLOSED,                 /* 0 or refusal 11 or 12; where it is closed Ldn (or MOATBURDOCK_BELOW_SCALE), the method, the events by day, those
-                                           by night, the highest Lmax (or MOATBURDOCK_NO_LMAX). That of each class comes of moatburdock_close_day on the
-                                           reader's day, with the calibration levels of the file */
+                                           by night, the highest Lmax (or MOATBURDOCK_NO_LMAX), the lowest and the highest Ldn (or MOATBURDOCK_BELOW_SCALE).
+                                           The highest Lmax of each class comes of moatburdock_close_day on the reader's day, with the calibration levels of
+                                           the file */
     MOATBURDOCK_FAULT,                  /* refusal 10, 16, 17 or 18; the reader's day is that of the events before the fault */
     MOATBURDOCK_DONE                    /* the day was closed or a fault met at an earlier step */
 };

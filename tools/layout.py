@@ -1,5 +1,5 @@
-"""The layout of a day file (document 01, 'Day file', with the settings of document 02, W-202 and W-205), in one place: each section as bytes, and the
-sections of some bytes. All numbers are little-endian; those of times around midnight are signed."""
+"""The layout of a day file (document 01, 'Day file', with the settings of document 02, W-202 and W-205, and the tolerances of W-211), in one place: each
+section as bytes, and the sections of some bytes. All numbers are little-endian; those of times around midnight are signed."""
 import struct
 from collections import namedtuple
 
@@ -7,11 +7,12 @@ SETTINGS = '<BBIIi'      # count byte 1, samples a second, first and last daytim
 ENTRY = '<HH'            # of the book: flights by day, flights by night
 CALIBRATION = '<BHH'     # count byte 2, level before, level after
 COUNT = '<H'             # of the events
-FIELDS = '<iBHBHH'       # of an event: start, class, wind, wet, background, number of samples
+FIELDS = '<iBHBHHH'      # of an event: start, class, wind, wet, background, tolerance, number of samples
+FIELDS_BEFORE = '<iBHBHH'  # those of before W-211, without a tolerance
 LONGEST_WINDOW = 600     # seconds of samples
 BEFORE = (10, 216000, 791999)  # the settings of document 01: ten samples a second, daytime from 06:00 to 22:00
 
-Event = namedtuple('Event', 'start klass wind wet background samples')
+Event = namedtuple('Event', 'start klass wind wet background tolerance samples')
 
 
 class Fault(Exception):
@@ -41,10 +42,10 @@ def calibration(before, after, count=2):
     return struct.pack(CALIBRATION, count, before, after)
 
 
-def event(start, klass, wind, wet, background, samples, announced=None):
+def event(start, klass, wind, wet, background, tolerance, samples, announced=None):
     """announced: the number of samples that the record states, where it is not the right one"""
     number = len(samples) if announced is None else announced
-    return struct.pack(FIELDS, start, klass, wind, wet, background, number) + struct.pack('<%dH' % len(samples), *samples)
+    return struct.pack(FIELDS, start, klass, wind, wet, background, tolerance, number) + struct.pack('<%dH' % len(samples), *samples)
 
 
 def events(records, announced=None):
@@ -52,10 +53,17 @@ def events(records, announced=None):
     return struct.pack(COUNT, len(records) if announced is None else announced) + b''.join(records)
 
 
-def sections(data):
+def day_file(parts):
+    """the bytes of a whole file, of its sections as they are given below"""
+    parts = list(parts)
+    fixed = dict(parts[:3])
+    return settings(*fixed['settings']) + book(fixed['book']) + calibration(*fixed['calibration']) + events([event(*e) for _, e in parts[3:]])
+
+
+def sections(data, before=False):
     """The sections of a file in their order, each as soon as it is read: ('settings', (rate, first, last, end)), ('book', flights), ('calibration',
     (before, after)) and ('event', Event) for each event. Raises the Fault of a faulty file where it is met; settings that no terminal has and a book with too
-    many flights are no fault of the layout."""
+    many flights are no fault of the layout. before: the file is one of before W-211, and every tolerance is 0."""
     at = 0
 
     def take(form):
@@ -81,7 +89,9 @@ def sections(data):
     yield 'calibration', take('<HH')
     number, = take(COUNT)
     for i in range(number):
-        *fields, n = take(FIELDS)
+        *fields, n = take(FIELDS_BEFORE if before else FIELDS)
+        if before:
+            fields.append(0)
         if n > LONGEST_WINDOW * rate:
             raise Fault(16, 'event %d has %d samples' % (i + 1, n))
         yield 'event', Event(*fields, list(take('<%dH' % n)))

@@ -6,7 +6,8 @@ thrusts.py and angles.py.
 
 In a call 8000*3 stands for 8000 8000 8000, -6000 for that number in 32 bits, two's complement, and '-' alone for below scale or no Lmax. The words of
 interpolate and degrees are f64 numbers, each by its bits in 16 hexadecimal digits. An hour is answered by its energy in two halves of 64 bits, the lower
-one first."""
+one first. The tolerance of an offer, the sixth number before '/', may be left out; then it is 0. A spread is answered by what stands in the places of the
+lowest and of the highest Ldn after a closing, where 7 stood before it."""
 import os
 import re
 from collections import namedtuple
@@ -85,11 +86,15 @@ class Replay:
         return [self.day.hour_answer(*call.numbers)]
 
     def offer(self, call):
-        start, *rest = call.numbers[:5]
-        return self.day.offer_answers(signed(start), *rest, call.numbers[5:])
+        start, *rest = call.numbers[:call.slash]
+        tolerance = rest[4] if len(rest) > 4 else 0
+        return self.day.offer_answers(signed(start), *rest[:4], tolerance, call.numbers[call.slash:])
 
     def close(self, call):
         return self.day.close_answers(*call.numbers)
+
+    def spread(self, call):
+        return self.day.spread_answers(*call.numbers, 7)
 
     def highest(self, call):
         return self.day.highest_answers(*call.numbers, [7] * 16)

@@ -1,16 +1,18 @@
 -- Demand 3 for offers and closings, over every list of calls, and the laws beside it.
 use mathlib.Core.Path.{_≡_, refl, sym, ap, _∙_, subst}
+use mathlib.Core.Bool.{Bool}
 use mathlib.Core.List.{List, [], _∷_}
 use Prim.Native.Nat.{ℕ, zero, suc, _≤_}
 use Rattle.quantity.specs.Rules.{firstOf, outcome, follow}
 use Rattle.ledger.specs.declared.Day.{Day}
+use Rattle.admission.specs.Checks.{Offering}
 use Rattle.accuracy.specs.Tally.{Call, offering, closing, Tally, started, tallyOf, tallied, tallyChecks, joined}
 use Rattle.accuracy.specs.Terminal.{dayAfterCalls, dayAfter}
 use Rattle.accuracy.specs.Demand.{Demanded, Claim}
 use Rattle.accuracy.specs.Laws.{Always, SettingsKept, Apart, WithinReach, holders, WithinBook, Highest}
 use Rattle.accuracy.proofs.Held.{at-most-one}
 use Rattle.accuracy.proofs.Highest.{highest-of-tally}
-use Rattle.accuracy.proofs.Agreement.{dayOfTally, Bounded, Agrees, fresh, period-of-tally, book-at, count-at, sum-whole}
+use Rattle.accuracy.proofs.Agreement.{dayOfTally, Bounded, Agrees, fresh, period-of-tally, book-at, count-at, sum-whole, bound-whole}
 use Rattle.accuracy.proofs.Offers.{offer-keeps, offer-demanded}
 use Rattle.accuracy.proofs.Closings.{close-demanded}
 
@@ -29,18 +31,25 @@ keep a (c ∷ cs) = keep (keeps a c) cs
 pub agree : Always Agrees
 agree o h calls = keep (fresh o h) calls
 
--- the settings are those of the opening
-settings-after : (t : Tally) (call : Call) → tallied t call .settings ≡ t .settings
-settings-after t (closing before after) = refl
-settings-after t (offering o) = by-number (firstOf (tallyChecks t o))
-  where
-    by-number : (n : ℕ) → follow (outcome n (joined t o)) (λ k. t) (λ next. next) .settings ≡ t .settings
-    by-number zero = refl
-    by-number (suc n) = refl
+-- what no offer changes stays over all calls: the settings and the book are those of the opening
+module _ {A : Type 0} (part : Tally → A) (same : (t : Tally) (o : Offering) → part (joined t o) ≡ part t) where
+  after-call : (t : Tally) (call : Call) → part (tallied t call) ≡ part t
+  after-call t (closing before after) = refl
+  after-call t (offering o) = by-number (firstOf (tallyChecks t o))
+    where
+      by-number : (n : ℕ) → part (follow (outcome n (joined t o)) (λ k. t) (λ next. next)) ≡ part t
+      by-number zero = same t o
+      by-number (suc n) = refl
+
+  kept-in-tally : (t : Tally) (calls : List Call) → part (tallyOf t calls) ≡ part t
+  kept-in-tally t [] = refl
+  kept-in-tally t (c ∷ cs) = kept-in-tally (tallied t c) cs ∙ after-call t c
 
 pub settings-in-tally : (t : Tally) (calls : List Call) → tallyOf t calls .settings ≡ t .settings
-settings-in-tally t [] = refl
-settings-in-tally t (c ∷ cs) = settings-in-tally (tallied t c) cs ∙ settings-after t c
+settings-in-tally = kept-in-tally (λ t. t .settings) (λ t o. refl)
+
+pub book-in-tally : (t : Tally) (calls : List Call) (p : Bool) → tallyOf t calls .book p ≡ t .book p
+book-in-tally t calls p = kept-in-tally (λ t. t .book p) (λ t o. refl) t calls
 
 pub settings-kept : SettingsKept
 settings-kept o h calls = ap (λ (day : Day). day .settings) (agree o h calls .same) ∙ settings-in-tally (started o) calls
@@ -63,6 +72,7 @@ within-book =
       counts = λ p class. rw (period-of-tally t p) (count-at b p class);
       booked = λ p class. rw (period-of-tally t p, book-at b p class, count-at b p class) (b .counts p class);
       sums = λ p. rw (period-of-tally t p) (sum-whole b p);
+      ends = λ bound p. rw (period-of-tally t p) (bound-whole b p bound);
     })
 
 -- the stretches lie within reach of the day and apart, and no instant is counted twice

@@ -1,4 +1,4 @@
--- Laws on plain lists: a list in a number of places, a count or a sum that is raised, and the highest and the energy of a part of a list.
+-- Laws on plain lists: a list in a number of places, a count or a sum that is raised, and the energy of a part of a list.
 use mathlib.Core.Path.{_≡_, refl, ap}
 use mathlib.Core.List.{List, [], _∷_, map}
 use Prim.Native.Nat.{ℕ, zero, suc, _+_, _*_, _≤_, _<_, zero-le}
@@ -43,6 +43,11 @@ padded-zeros zero k = refl
 padded-zeros (suc n) zero = ap (λ (l : List ℕ). 0 ∷ l) (padded-zeros n zero)
 padded-zeros (suc n) (suc k) = ap (λ (l : List ℕ). 0 ∷ l) (padded-zeros n k)
 
+pub sum-zeros : (n : ℕ) → sumOf (replicate n 0) ≡ 0
+unfolding sumOf
+sum-zeros zero = refl
+sum-zeros (suc n) = omega (arith, sum-zeros n)
+
 -- counts within a book, one of them raised by one where the book has more
 pub raised-within : (counts book : List ℕ) (k : ℕ) → k < length counts → getD counts k 0 < getD book k 0
     → ((j : ℕ) → getD counts j 0 ≤ getD book j 0) → (j : ℕ) → getD (set counts k (getD counts k 0 + 1)) j 0 ≤ getD book j 0
@@ -63,20 +68,6 @@ pub map-set : {A B : Type 0} (f : A → B) (xs : List A) (k : ℕ) (x : A) → m
 map-set f [] k x = refl
 map-set f (y ∷ ys) zero x = refl
 map-set {A} {B} f (y ∷ ys) (suc k) x = ap (λ (l : List B). f y ∷ l) (map-set f ys k x)
-
--- a part of a list is not higher than the list
-pub highest-take : (n : ℕ) (s : List ℕ) → highest (take n s) ≤ highest s
-highest-take zero s = zero-le
-highest-take (suc n) [] = zero-le
-highest-take (suc n) (c ∷ cs) = omega (arith, highest-take n cs)
-
-pub highest-drop : (n : ℕ) (s : List ℕ) → highest (drop n s) ≤ highest s
-highest-drop zero s = le-refl _
-highest-drop (suc n) [] = zero-le
-highest-drop (suc n) (c ∷ cs) = omega (arith, highest-drop n cs)
-
-pub highest-slice : (first end : ℕ) (s : List ℕ) → highest (slice first end s) ≤ highest s
-highest-slice first end s = le-trans (highest-drop first (take end s)) (highest-take end s)
 
 -- samples up to a level have at most its power each
 pub energies-most : (c : ℕ) (s : List ℕ) → highest s ≤ c → energies s ≤ e c * length s

@@ -41,7 +41,7 @@ use Rattle.accuracy.specs.Hours.{heldEnergy}
 use Rattle.accuracy.specs.Terminal.{dayOf, tallyIn, heldIn, rateIn}
 use Rattle.accuracy.specs.Means.{ClosedDay, Measured, Quiet, rateWeight, meanWeight, meanTicks, recordsOf, daySamples, samplesOf, MeanAccurate, MeanDemanded, MeanClaim, QuietLaw, Demand3}
 use Rattle.accuracy.proofs.Sums.{weighted-held, weighted-append, both-periods}
-use Rattle.accuracy.proofs.Agreement.{Agrees}
+use Rattle.accuracy.proofs.Agreement.{Agrees, energy-most}
 use Rattle.accuracy.proofs.Closings.{tallyAnswer, closed-same}
 use Rattle.accuracy.specs.Laws.{WithinReach, periodEnergy}
 use Rattle.accuracy.proofs.Held.{lastEnd, last-within}
@@ -230,7 +230,7 @@ low-level d m =
     let ticks = dayTicks rate in
     let held = heldIn (d .day) in
     let far : e 25000 ≡ 10 ^ 11 * e highestSample = e-higher 11 highestSample in
-    let below = far-below (e highestSample) ticks (lastEnd held) (heldEnergy held) (mul-pos (e-positive highestSample) (ticks-positive rate)) (agrees d .bounded .energy) (last-low d) in
+    let below = far-below (e highestSample) ticks (lastEnd held) (heldEnergy held) (mul-pos (e-positive highestSample) (ticks-positive rate)) (energy-most (agrees d .bounded)) (last-low d) in
     let reached : ticks * e (raised (m .ldn)) ≤ 10 ^ 6 * heldEnergy held = omega (arith, both-periods held, day-reaches d m) in
     let higher : 25001 ≤ raised (m .ldn) → ⊥ =
     λ l. not-le-of-lt (lt-of-le-of-lt reached below) (rw far at (mul-le-mul-left ticks (e-mono {c = 25000} {d = raised (m .ldn)} (omega arith)))) in

@@ -25,7 +25,7 @@ use Rattle.ledger.specs.Day.{Opening, openedDay, periodOf}
 use Rattle.ledger.specs.declared.Day.{Day}
 use Rattle.admission.specs.Checks.{Offering, dayChecks, inDaytime}
 use Rattle.admission.specs.declared.Recording.{Recording}
-use Rattle.exposure.specs.Exposure.{energyOf}
+use Rattle.exposure.specs.Exposure.{EnergyRange, energyRangeBy}
 use Rattle.offering.specs.Offer.{enteredIn, entered, offeredBy, offered}
 use Rattle.method.specs.Method.{countsOf}
 use Rattle.closing.specs.Close.{Closed, closeRules, closingOf, classesGiven, dayClosed}
@@ -61,7 +61,7 @@ same-period d end true = refl
 same-period d end false = refl
 
 -- an accepted event leaves the same day, since its own end takes the place of the other
-same-entered : (d : Day) (end : Instant) (r : Recording) (v : Event) (S : ℕ) → entered (atEnd d end) r v S ≡ entered d r v S
+same-entered : (d : Day) (end : Instant) (r : Recording) (v : Event) (S : EnergyRange) → entered (atEnd d end) r v S ≡ entered d r v S
 same-entered d end r v S = go (inDaytime (d .settings) r v)
   where
     go : (p : Bool) → enteredIn p (atEnd d end) r v S ≡ enteredIn p d r v S
@@ -132,7 +132,7 @@ module _ (d : Day) (end : Instant) (alike : Alike end (d .end)) (o : Offering) w
   both-by : (k : ℕ) → Kept (offeredBy k (atEnd d end) o .day) (offeredBy k d o .day)
   both-by zero =
       let v = eventOf (o .samples) in
-      record { end = instantAt (start + v .stretch .end); same = same-entered d end (o .recording) v (energyOf (o .samples)); alike = λ t h. refl }
+      record { end = instantAt (start + v .stretch .end); same = same-entered d end (o .recording) v (energyRangeBy v (o .recording .tolerance .0) (o .samples)); alike = λ t h. refl }
   both-by (suc k) = record { end = end; same = refl; alike = alike }
 
   kept-offer : (wasOutside d o ≡ true → 0 < firstOf (dayChecks (atEnd d end) o)) → Kept (offered (atEnd d end) o .day) (offeredBefore d o .day)

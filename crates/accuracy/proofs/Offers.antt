@@ -1,6 +1,6 @@
 -- An offer: day and tally refuse it by the same number, or both take it in and agree again; and what is demanded of the answer.
 use mathlib.Core.Path.{_≡_, refl, sym, ap, _∙_}
-use mathlib.Core.Bool.{Bool, true, false}
+use mathlib.Core.Bool.{Bool, true, false, cond}
 use mathlib.Core.List.{List, _∷_}
 use Prim.Native.Nat.{ℕ, zero, suc, _+_, _-_, _≤_, _<_}
 use native.Mathlib.Nat.{le-refl, le-trans, mul-le-mul-left}
@@ -10,6 +10,8 @@ use lib.Dec.{leb, eqb}
 use lib.ListN.{length, getD, set, length-set}
 use Rattle.quantity.specs.Limits.{highestSample}
 use Rattle.quantity.specs.Rules.{Rule, firstOf, outcome, follow}
+use Rattle.quantity.specs.declared.Bound.{Bound}
+use Rattle.quantity.specs.declared.Bound.the-variants.{Lowest, Highest}
 use Rattle.quantity.specs.declared.HighestLevel.{HighestLevel}
 use Rattle.power.specs.Power.{e}
 use Rattle.clock.specs.Clock.{hourOf}
@@ -18,13 +20,13 @@ use Rattle.event.specs.Window.{highest, peakOf}
 use Rattle.event.specs.Stretch.{stretchFirst, stretchEnd, stretchOf}
 use Rattle.decades.specs.Decades.{energies}
 use Rattle.event.specs.Event.{eventOf}
-use Rattle.exposure.specs.Exposure.{energyOf}
+use Rattle.exposure.specs.Exposure.{EnergyRange, rangeOf, energyRangeBy}
 use Rattle.exposure.proofs.Accuracy.{exposure-accurate}
 use Rattle.event.proofs.Whole.{in-window, peak-inside}
-use Rattle.ledger.specs.Book.{mostClasses}
+use Rattle.ledger.specs.Book.{mostClasses, sumOf}
 use Rattle.ledger.specs.Day.{periodOf, withPeriod}
 use Rattle.admission.specs.Checks.{Offering, dayChecks, usedUp}
-use Rattle.offering.specs.Offer.{offeredBy, offered, cellsWith, withEvent, entered, raised, raisedInClass}
+use Rattle.offering.specs.Offer.{offeredBy, offered, cellsWith, sumWith, withEvent, entered, raised, raisedInClass}
 use Rattle.ledger.specs.declared.Period.{Period}
 use Rattle.ledger.specs.declared.ClassHighest.{ClassHighest}
 use Rattle.ledger.specs.declared.Day.{Day}
@@ -32,10 +34,11 @@ use Rattle.accuracy.specs.Tally.{offering, Held, Tally, tallied, joined,
 use Rattle.accuracy.specs.Demand.{OfferDemanded}
 use Rattle.accuracy.specs.Hours.{heldEnergy}
 use Rattle.accuracy.proofs.Tests.{cond-both, first-limit, reached-equal}
-use Rattle.accuracy.proofs.Held.{last-by, apart-later}
-use Rattle.accuracy.proofs.Lists.{padded-set, raised-within}
+use Rattle.accuracy.proofs.Held.{apart-later, countIn}
+use Rattle.accuracy.proofs.Lists.{padded-set, raised-within, sum-raised}
 use Rattle.accuracy.proofs.Cells.{cellsOfStretches}
-use Rattle.accuracy.proofs.Windows.{at-peak, highest-stretch, stretch-energy, Admitted, admits}
+use Rattle.accuracy.proofs.Ranges.{sumOfStretches}
+use Rattle.accuracy.proofs.Windows.{at-peak, highest-stretch, stretch-length, Admitted, admits}
 use Rattle.accuracy.proofs.Agreement.{periodOfParts, periodOfTally, dayOfTally, Bounded, Agrees, period-of-tally, book-at, count-at}
 
 -- the rules against a day that a tally gives are the tally's own
@@ -61,6 +64,11 @@ day-same {settings} {classes} {end} p q r s = λ i.
 abbrev HasRoom : Tally → ℕ → Bool → Type 0
 HasRoom t class p = getD (t .count p) class 0 < getD (t .book p) class 0
 
+-- the energy of a stretch at an end
+abbrev energyAt : Bound → EnergyRange → ℕ
+energyAt Lowest S = S .lowest
+energyAt Highest S = S .highest
+
 -- the tally with one stretch more
 abbrev withStretch : Tally → Held → Tally
 withStretch t h =
@@ -71,14 +79,16 @@ module _ {t : Tally} (b : Bounded t) (class : ℕ) (booked : class < length (t .
   in-counts p = rw (b .counted p) booked
 
   -- the day with the event is the day of the tally with the stretch
-  with-event : (p : Bool) (hour S : ℕ)
+  with-event : (p : Bool) (hour : ℕ) (S : EnergyRange)
       → withEvent (periodOfTally t p) class hour S
-      ≡ periodOfParts (t .book p) (set (t .count p) class (getD (t .count p) class 0 + 1)) (cellsWith (cellsOfStretches (t .settings .rate) p (t .stretches)) hour S)
+      ≡ periodOfParts (t .book p) (set (t .count p) class (getD (t .count p) class 0 + 1))
+      (cellsWith (cellsOfStretches (t .settings .rate) p (t .stretches)) hour (S .recorded))
+      (λ b. sumWith (sumOfStretches b p (t .stretches)) (energyAt b S))
   with-event p hour S =
       rw (count-at b p class, padded-set mostClasses (t .count p) class (getD (t .count p) class 0 + 1) (in-counts p))
 
-  event-same : (p : Bool) (peak from to : ℕ) (levels : List ℕ) {top : ℕ} → top ≡ highest levels
-      → let next = withPeriod (dayOfTally t) p (withEvent (periodOf (dayOfTally t) p) class (hourOf (t .settings .rate) peak) (energies levels)) in
+  event-same : (p : Bool) (peak from to u : ℕ) (levels : List ℕ) {top : ℕ} → top ≡ highest levels
+      → let next = withPeriod (dayOfTally t) p (withEvent (periodOf (dayOfTally t) p) class (hourOf (t .settings .rate) peak) (rangeOf u levels)) in
       _≡_ {A = Day}
       (record {
         settings = t .settings;
@@ -89,9 +99,9 @@ module _ {t : Tally} (b : Bounded t) (class : ℕ) (booked : class < length (t .
         highest = raised (next .highest) (record { 0 = top });
         «highest_by_class» = raisedInClass (next .«highest_by_class») class (record { 0 = top });
       })
-      (dayOfTally (withStretch t (record { class = class; daytime = p; peak = peak; from = from; to = to; levels = levels })))
-  event-same true peak from to levels e = day-same (with-event true (hourOf (t .settings .rate) peak) (energies levels)) refl (rw e) (rw e)
-  event-same false peak from to levels e = day-same refl (with-event false (hourOf (t .settings .rate) peak) (energies levels)) (rw e) (rw e)
+      (dayOfTally (withStretch t (record { class = class; daytime = p; peak = peak; from = from; to = to; tolerance = u; levels = levels })))
+  event-same true peak from to u levels e = day-same (with-event true (hourOf (t .settings .rate) peak) (rangeOf u levels)) refl (rw e) (rw e)
+  event-same false peak from to u levels e = day-same refl (with-event false (hourOf (t .settings .rate) peak) (rangeOf u levels)) (rw e) (rw e)
 
   -- a count is raised, and stays within the book where it has room there
   counted-length : (p q : Bool) → length (countRaised (t .count) p class q) ≡ length (t .book true)
@@ -105,6 +115,13 @@ module _ {t : Tally} (b : Bounded t) (class : ℕ) (booked : class < length (t .
   counted-within true g false = b .counts false
   counted-within false g true = b .counts true
   counted-within false g false = raised-count false g
+
+  -- and as many are counted as there are stretches
+  counted-more : (p q : Bool) → sumOf (countRaised (t .count) p class q) ≡ cond (sameAs p q) 1 0 + countIn q (t .stretches)
+  counted-more true true = omega (arith, sum-raised (t .count true) class 1 (in-counts true), b .counting true)
+  counted-more true false = omega (arith, b .counting false)
+  counted-more false true = omega (arith, b .counting true)
+  counted-more false false = omega (arith, sum-raised (t .count false) class 1 (in-counts false), b .counting false)
 
 -- a stretch has its highest level at its peak, whenever its window begins
 in-stretch : (start : ℕ) (s : List ℕ) → 0 < length s
@@ -124,11 +141,11 @@ module _ {t : Tally} (b : Bounded t) (o : Offering) (free : firstOf (tallyChecks
   in-book : o .recording .class < length (t .book true)
   in-book = leb-false _ _ (admission .booked)
 
-  joined-same : entered (dayOfTally t) (o .recording) (eventOf (o .samples)) (energyOf (o .samples)) ≡ dayOfTally (joined t o)
+  joined-same : entered (dayOfTally t) (o .recording) (eventOf (o .samples)) (energyRangeBy (eventOf (o .samples)) (o .recording .tolerance .0) (o .samples)) ≡ dayOfTally (joined t o)
   joined-same =
       let c = o .recording in
       let s = o .samples in
-      event-same b (c .class) in-book (periodIn (t .settings) o) (c .start .0 + peakOf s) (c .start .0 + stretchFirst s) (c .start .0 + stretchEnd s) (stretchOf s)
+      event-same b (c .class) in-book (periodIn (t .settings) o) (c .start .0 + peakOf s) (c .start .0 + stretchFirst s) (c .start .0 + stretchEnd s) (c .tolerance .0) (stretchOf s)
       (sym (highest-stretch s (admission .some)))
 
   pub joined-bounded : Bounded (joined t o)
@@ -148,14 +165,14 @@ module _ {t : Tally} (b : Bounded t) (o : Offering) (free : firstOf (tallyChecks
         booked = b .booked;
         counted = counted-length b class in-book p;
         counts = counted-within b class in-book p room;
+        counting = counted-more b class in-book p;
         classes = (in-book, b .classes);
         within = ((omega (arith, a .inside .begins), omega (arith, in-window s, a .inside .ends)), b .within);
         held = ((omega arith, omega arith, in-stretch (o .recording .start .0) s (a .some)), b .held);
         peaks = ((a .inside .peakFrom, a .inside .peakBefore), b .peaks);
         last = refl;
         apart = (le-refl _, omega arith, apart-later (t .stretches) (a .after) (b .apart));
-        energy =
-            (omega (arith, b .energy, mul-le-mul-left (e highestSample) (le-trans (last-by (t .stretches) (b .apart)) (a .after)), stretch-energy highestSample s (a .level)));
+        low = ((omega (arith, stretch-length s, in-window s), rw (highest-stretch s (a .some)) (a .level)), b .low);
       }
 
 module _ {t : Tally} (b : Bounded t) (o : Offering) where

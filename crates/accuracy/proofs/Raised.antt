@@ -66,13 +66,13 @@ module _ (day : Day) (o : Offering) where
       let start = o .recording .start .0 in
       let r = run-inside s in
       let p = pass (dayChecksBy (eventOf s) day o) (search needs) h in
-      let edge = neither (eqb (stretchFirst s) 0) (eqb (stretchEnd s) n) (p .1 .1 .1 .1 .1 .1 .0) in
+      let edge = neither (eqb (stretchFirst s) 0) (eqb (stretchEnd s) n) (p .1 .1 .1 .1 .1 .1 .1 .0) in
       let first = eqb-false (stretchFirst s) 0 (edge .0) in
       let end = eqb-false (stretchEnd s) n (edge .1) in
       let within = end-place (near (highest s)) s .from .within in
       let inside : touchesEdge (runFirst s) (runEnd s) n ≡ false = rw (ne-eqb (runFirst s) 0 (omega (arith, first, r .from)), ne-eqb (runEnd s) n (omega (arith, end, r .to, within))) in
-      let after = le-ltb (start + runFirst s) (day .end .0) (omega (arith, r .from, ltb-false (start + stretchFirst s) (day .end .0) (p .1 .1 .1 .1 .1 .1 .1 .0))) in
-      sym (passes (dayChecksBy (unbrokenEvent s) day o) (p .0, (p .1 .0, (p .1 .1 .0, (p .1 .1 .1 .0, (p .1 .1 .1 .1 .0, (p .1 .1 .1 .1 .1 .0, (inside, (after, p .1 .1 .1 .1 .1 .1 .1 .1)))))))))
+      let after = le-ltb (start + runFirst s) (day .end .0) (omega (arith, r .from, ltb-false (start + stretchFirst s) (day .end .0) (p .1 .1 .1 .1 .1 .1 .1 .1 .0))) in
+      sym (passes (dayChecksBy (unbrokenEvent s) day o) (p .0, (p .1 .0, (p .1 .1 .0, (p .1 .1 .1 .0, (p .1 .1 .1 .1 .0, (p .1 .1 .1 .1 .1 .0, (p .1 .1 .1 .1 .1 .1 .0, (inside, (after, p .1 .1 .1 .1 .1 .1 .1 .1 .1))))))))))
 
 pub raised-law : RaisedLaw
 raised-law day o = by-number (firstOf (dayChecksBy (eventOf s) day o)) refl

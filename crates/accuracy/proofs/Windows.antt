@@ -20,11 +20,11 @@ use Rattle.clock.proofs.Inside.{Inside, inside}
 use Rattle.event.specs.Window.{highest, peakOf, anyAbove}
 use Rattle.event.specs.Stretch.{stretchFirst, stretchEnd, stretchOf}
 use Rattle.decades.specs.Decades.{energies}
-use Rattle.event.proofs.Places.{peaks, highest-above}
+use Rattle.event.proofs.Places.{peaks, highest-above, highest-slice}
 use Rattle.event.proofs.Whole.{any-above, in-window, peak-inside}
 use Rattle.admission.specs.Checks.{Offering, offerChecks}
 use Rattle.quantity.proofs.Tests.{neither}
-use Rattle.accuracy.proofs.Lists.{highest-slice, energies-most}
+use Rattle.accuracy.proofs.Lists.{energies-most}
 
 -- the stretch has the window's highest level, at the peak
 pub at-peak : (s : List ℕ) → 0 < length s → getD (stretchOf s) (peakOf s - stretchFirst s) 0 ≡ highest s
@@ -38,13 +38,17 @@ pub highest-stretch : (s : List ℕ) → 0 < length s → highest (stretchOf s) 
 highest-stretch s h =
     le-antisymm (highest-slice (stretchFirst s) (stretchEnd s) s) (rw (at-peak s h) at (highest-above (stretchOf s) (peakOf s - stretchFirst s)))
 
+-- it has a sample at each of its instants
+pub stretch-length : (s : List ℕ) → length (stretchOf s) ≡ stretchEnd s - stretchFirst s
+stretch-length s = length-slice (stretchFirst s) (stretchEnd s) s (in-window s .end)
+
 -- its energy is at most that of as many samples at a level that none passes
 pub stretch-energy : (c : ℕ) (s : List ℕ) → highest s ≤ c → energies (stretchOf s) + e c * stretchFirst s ≤ e c * stretchEnd s
 stretch-energy c s h =
     let w = in-window s in
     let n : stretchFirst s + (stretchEnd s - stretchFirst s) ≡ stretchEnd s = omega arith in
     let all : e c * (stretchFirst s + (stretchEnd s - stretchFirst s)) ≡ e c * stretchEnd s = ap (λ (k : ℕ). e c * k) n in
-    let most = rw (length-slice (stretchFirst s) (stretchEnd s) s (w .end)) at
+    let most = rw (stretch-length s) at
     (energies-most c (stretchOf s) (le-trans (highest-slice (stretchFirst s) (stretchEnd s) s) h)) in
     omega arith
 
@@ -71,7 +75,7 @@ admits rate o unbooked end used h =
       inside = inside rate (c .start .0) (peakOf (o .samples)) n (p .1 .0);
       booked = p .1 .1 .0;
       level = ltb-false highestSample (highest (o .samples)) (sym (any-above highestSample (o .samples)) ∙ high .0);
-      loud = ltb-false (highest (o .samples)) (c .background .0 + 1500) (p .1 .1 .1 .1 .1 .0);
-      after = ltb-false (c .start .0 + stretchFirst (o .samples)) end (p .1 .1 .1 .1 .1 .1 .1 .0);
-      unused = p .1 .1 .1 .1 .1 .1 .1 .1 .0;
+      loud = ltb-false (highest (o .samples)) (c .background .0 + 1500) (p .1 .1 .1 .1 .1 .1 .0);
+      after = ltb-false (c .start .0 + stretchFirst (o .samples)) end (p .1 .1 .1 .1 .1 .1 .1 .1 .0);
+      unused = p .1 .1 .1 .1 .1 .1 .1 .1 .1 .0;
     }

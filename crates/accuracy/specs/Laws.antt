@@ -1,7 +1,7 @@
 -- What holds of the day and of the plain tally after every list of calls, beside demand 3 (document 01, 'Day').
 use mathlib.Core.Path.{_≡_}
 use mathlib.Core.Bool.{Bool, true, _&&_, cond}
-use mathlib.Core.List.{List, [], _∷_}
+use mathlib.Core.List.{List, [], _∷_, map}
 use mathlib.Core.Option.{Option, some, none}
 use Prim.Native.Nat.{ℕ, _+_, _≤_, _<_, max}
 use lib.Dec.{leb, ltb, eqb}
@@ -9,13 +9,14 @@ use lib.ListN.{length, getD}
 use Rattle.quantity.specs.Answers.{highestReading}
 use Rattle.quantity.specs.Rules.{firstOf}
 use Rattle.quantity.specs.Lists.{Each}
+use Rattle.quantity.specs.declared.Bound.{Bound}
 use Rattle.clock.specs.Clock.{earliestStart, latestEnd}
 use Rattle.clock.specs.declared.Rate.{Rate}
 use Rattle.event.specs.Window.{highest}
 use Rattle.decades.specs.Decades.{energies}
-use Rattle.ledger.specs.Day.{Opening, openRules, openedSettings, openedDay, periodOf, energyIn, levelsByClass}
+use Rattle.ledger.specs.Day.{Opening, openRules, openedSettings, openedDay, periodOf, energyIn, energyAtBound, levelsByClass}
 use Rattle.ledger.specs.declared.Day.{Day}
-use Rattle.accuracy.specs.Tally.{Call, Held, Tally, started, tallyOf, sameAs}
+use Rattle.accuracy.specs.Tally.{Call, Held, Tally, started, tallyOf, sameAs, heldAt}
 use Rattle.accuracy.specs.Terminal.{dayAfterCalls}
 
 -- for all settings and every book that open, whatever end of the day before, and every list of calls, refused ones included
@@ -47,11 +48,13 @@ unfoldable pub periodEnergy : Bool → List Held → ℕ
 periodEnergy p [] = 0
 periodEnergy p (h ∷ hs) = cond (sameAs (h .daytime) p) (energies (h .levels)) 0 + periodEnergy p hs
 
--- the day's counts are the tally's, none passes the book, and the sum of a period, kept modulo 2 ^ 128, is the true sum
+-- the day's counts are the tally's, none passes the book, and the sum of a period, kept modulo 2 ^ 128, is the true sum; so is that at an end of the samples' ranges
+-- (W-211)
 pub record WithinBook (t : Tally) (day : Day) : Type 0 where
   pub counts : (p : Bool) (class : ℕ) → getD (periodOf day p .accepted) class 0 ≡ getD (t .count p) class 0
   pub booked : (p : Bool) (class : ℕ) → getD (periodOf day p .accepted) class 0 ≤ getD (periodOf day p .booked) class 0
   pub sums : (p : Bool) → energyIn (periodOf day p) ≡ periodEnergy p (t .stretches)
+  pub ends : (b : Bound) (p : Bool) → energyAtBound b (periodOf day p) ≡ periodEnergy p (map (heldAt b) (t .stretches))
 
 -- the larger of two levels, either of which may be none
 abbrev pub larger : Option ℕ → Option ℕ → Option ℕ

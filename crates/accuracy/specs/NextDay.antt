@@ -21,7 +21,14 @@ onDayBefore rate o =
     let r = o .recording in
     record {
       recording =
-          record { start = instantAt (dayTicks rate + r .start .0); class = r .class; wind = r .wind; wet = r .wet; background = r .background };
+          record {
+            start = instantAt (dayTicks rate + r .start .0);
+            class = r .class;
+            wind = r .wind;
+            wet = r .wet;
+            background = r .background;
+            tolerance = r .tolerance;
+          };
       samples = o .samples;
     }
 
@@ -55,6 +62,7 @@ later ticks h =
       peak = ticks + h .peak;
       from = ticks + h .from;
       to = ticks + h .to;
+      tolerance = h .tolerance;
       levels = h .levels;
     }
 

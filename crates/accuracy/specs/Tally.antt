@@ -5,6 +5,8 @@ use Prim.Native.Nat.{ℕ, _+_}
 use lib.Dec.{leb, eqb}
 use lib.ListN.{length, getD, set, replicate}
 use Rattle.quantity.specs.Rules.{Rule, firstOf, outcome, follow}
+use Rattle.quantity.specs.Tolerance.{atBound}
+use Rattle.quantity.specs.declared.Bound.{Bound}
 use Rattle.level.specs.Accuracy.{Sample, weigh}
 use Rattle.event.specs.Event.{eventOf}
 use Rattle.event.specs.Stretch.{stretchOf, stretchFirst, stretchEnd}
@@ -20,13 +22,15 @@ pub data Call : Type 0 where
   offering : Offering → Call
   closing : (before after : ℕ) → Call
 
--- a stretch of the list, with its class, its period and the instant of its peak: its samples, and the instant of the first and the instant after the last
+-- a stretch of the list, with its class, its period, the instant of its peak and the tolerance of its meter (W-211): its samples, and the instant of the first and the
+-- instant after the last
 pub record Held : Type 0 where
   pub class : ℕ
   pub daytime : Bool
   pub peak : ℕ
   pub from : ℕ
   pub to : ℕ
+  pub tolerance : ℕ
   pub levels : List ℕ
 
 -- the settings, the book, an end, a count for each class and period, and a list of stretches with their classes and periods, the latest first. A period is given by a
@@ -93,6 +97,7 @@ joined t o =
             peak = r .start .0 + eventOf (o .samples) .peak;
             from = r .start .0 + stretchFirst (o .samples);
             to = r .start .0 + stretchEnd (o .samples);
+            tolerance = r .tolerance .0;
             levels = stretchOf (o .samples);
           }
           ∷ t .stretches;
@@ -126,6 +131,22 @@ tallyCounts t =
       totals = record { daytime = tallyCount t true; night = tallyCount t false };
       class = tallyClass t;
     }
+
+-- W-211: a stretch with other samples in the place of the recorded ones, and with each of them at an end of its range
+abbrev pub withLevels : Held → List ℕ → Held
+withLevels h levels =
+    record {
+      class = h .class;
+      daytime = h .daytime;
+      peak = h .peak;
+      from = h .from;
+      to = h .to;
+      tolerance = h .tolerance;
+      levels = levels;
+    }
+
+abbrev pub heldAt : Bound → Held → Held
+heldAt b h = withLevels h (atBound b (h .tolerance) (h .levels))
 
 -- the samples of the stretches, each with the weight of its period
 abbrev pub heldSamples : (Bool → ℕ) → List Held → List Sample

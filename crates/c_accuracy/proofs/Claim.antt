@@ -1,5 +1,6 @@
 -- Demand 3 through C: what a caller reads is the outcome that the claims of `accuracy` speak of.
 use mathlib.Core.Path.{_≡_, refl, sym, ap, ap₂, subst, _∙_}
+use mathlib.Core.Bool.{true, false}
 use mathlib.Core.List.{List, [], _∷_, map}
 use mathlib.Core.Option.{Option, none}
 use Prim.Native.Nat.{ℕ, zero, suc, _+_, _*_, _^_, _≤_, _<_}
@@ -12,11 +13,13 @@ use lib.ListN.{length, replicate}
 use Rattle.quantity.specs.Answers.{Reading, level, reading, highestReading}
 use Rattle.quantity.specs.Lent.{leaves}
 use Rattle.quantity.specs.Rules.{Outcome, refused, given, firstOf, outcome}
+use Rattle.quantity.specs.declared.Bound.the-variants.{Lowest, Highest}
 use Rattle.quantity.specs.declared.HighestLevel.{HighestLevel}
 use Rattle.quantity.specs.declared.HighestLevel.the-variants as highests
 use Rattle.quantity.proofs.Outcomes.{refuses}
 use Rattle.quantity.proofs.Refusing.{pass}
 use Rattle.quantity.proofs.Tests.{neither, test}
+use Rattle.limbs.specs.Value.{base}
 use Rattle.level.specs.Level.{largestLevel}
 use Rattle.ledger.specs.Book.{mostClasses, sumOf}
 use Rattle.ledger.specs.Day.{openedDay, levelsByClass}
@@ -25,7 +28,7 @@ use Rattle.offering.specs.Offer.{Accepted, offeredBy, offered}
 use Rattle.ledger.specs.declared.ClassHighest.{ClassHighest}
 use Rattle.ledger.specs.declared.Day.{Day}
 use Rattle.method.specs.Method.{methodOneHolds, methodBy, countsOf}
-use Rattle.closing.specs.Formula.{formulaBy}
+use Rattle.closing.specs.Formula.{formulaBy, levelBy}
 use Rattle.closing.specs.Close.{Closing, closeRules, closingOf, closed, classesGiven}
 use Rattle.closing.proofs.Answers.{divisor-positive}
 use Rattle.mean.specs.Mean.{isCountWrong, anyOutside, sumOfPowers, meanRules, meanOf}
@@ -36,12 +39,13 @@ use Rattle.accuracy.specs.Demand.{OfferDemanded, CloseDemanded, Demanded, Claim
 use Rattle.accuracy.specs.Means.{ClosedDay, recordsOf, MeanDemanded, MeanClaim}
 use Rattle.accuracy.proofs.Claim.{claim}
 use Rattle.accuracy.proofs.Means.{mean-claim}
+use Rattle.accuracy.proofs.Tolerance.{spread-law}
 use Rattle.day_words.specs.Words.{dayWords, dayFrom}
 use Rattle.c_interface.specs.Numbers.{levelNumber, classNumbers, classLevelsFrom, recordNumber, recordLevel, recordLevels, Told, ToldHighest}
 use Rattle.c_interface.specs.Calls.{OfferLent, CloseLent, closedLeaves, closeLeaves}
 use Rattle.c_interface.proofs.Written.{told-level, record-law, told-highest}
 use Rattle.c_accuracy.specs.Calls.{CCall, offer, close, callOf, lentTo, wordsOf}
-use Rattle.c_accuracy.specs.Demand.{offerSeen, closeSeen, classesSeen, meanSeen, CDemanded, CClaim, Wrote, AllWrote, CMeanClaim, CDemand3}
+use Rattle.c_accuracy.specs.Demand.{offerSeen, closeSeen, classesSeen, meanSeen, CDemanded, CClaim, CSpreadLaw, Wrote, AllWrote, CMeanClaim, CDemand3}
 use Rattle.c_accuracy.proofs.Told.{told-exposure, told-weighted, sum-most, told-mean}
 use Rattle.c_accuracy.proofs.Held.{Low, AllLow, Reached, energy-below, whole}
 
@@ -57,15 +61,22 @@ offer-seen lent day (given a) h = rw (told-level (a .exposure) h)
 
 -- a closing that is read as it is has the answer and the levels by class of the call; of a refused one the levels are not read
 abbrev PlainClosing : Outcome Closing → Type 0
-PlainClosing = Plain (λ c. Told (c .ldn) × ToldHighest (c .highest))
+PlainClosing = Plain (λ c. Told (c .ldn) × Told (c .lowestLdn) × Told (c .highestLdn) × ToldHighest (c .highest))
+
+closing-seen : (lent : CloseLent) (r : Outcome Closing) (levels : List (Option ℕ)) → PlainClosing r
+    → closeSeen (closedLeaves lent (record { answer = r; highestByClass = levels })) ≡ r
+closing-seen lent (refused n) levels h = refuses n h _
+closing-seen lent (given c) levels h =
+    let r = record-law (c .ldn) (c .method) (h .0) in
+    rw (r .0, r .1, told-level (c .lowestLdn) (h .1), told-level (c .highestLdn) (h .2), told-highest (c .highest) (h .3))
 
 close-seen : (K : ℕ) (t : Tally) (before after : ℕ) (lent : CloseLent) (r : Outcome Closing) (levels : List (Option ℕ))
     → PlainClosing r → classLevelsFrom (classNumbers levels) ≡ levels → CloseDemanded K t before after r levels
     → let l = closedLeaves lent (record { answer = r; highestByClass = levels }) in CloseDemanded K t before after (closeSeen l) (classesSeen l)
-close-seen K t before after lent (refused n) levels h e d = rw (refuses n h _) d
+close-seen K t before after lent (refused n) levels h e d =
+    subst (λ (x : Outcome Closing). CloseDemanded K t before after x (classLevelsFrom (lent .highestByClass))) (sym (closing-seen lent (refused n) levels h)) d
 close-seen K t before after lent (given c) levels h e d =
-    let r = record-law (c .ldn) (c .method) (h .0) in
-    rw (r .0, r .1, told-highest (c .highest) (h .1), e) d
+    subst (λ (x : Outcome Closing). CloseDemanded K t before after x (classLevelsFrom (classNumbers levels))) (sym (closing-seen lent (given c) levels h)) (rw e d)
 
 mean-seen : (lent : ℤ) (r : Outcome Reading) → Plain Told r → meanSeen (leaves lent r levelNumber) ≡ r
 mean-seen lent (refused n) h = refuses n h _
@@ -94,8 +105,10 @@ classes-told : (d : Day) → AllLow (d .«highest_by_class») → (r : Outcome C
 classes-told d p (given c) = low-classes (d .«highest_by_class») p
 classes-told d p (refused n) = no-classes
 
-closing-told : (d : Day) → Reached d → (before after : ℕ) → firstOf (closeRules before after (countsOf d)) ≡ 0 → Told (closingOf d .ldn)
-closing-told d r before after h =
+-- the level of any two energies below 2 ^ 128, by the formula of a closing that is not refused
+closing-told : (d : Day) → Reached d → (before after : ℕ) → firstOf (closeRules before after (countsOf d)) ≡ 0 → {x y : ℕ} → x < base ^ 4 → y < base ^ 4
+    → let c = countsOf d in Told (levelBy (formulaBy (d .settings .rate) (methodBy c) (c .totals)) x y)
+closing-told d r before after h below-x below-y =
     let c = countsOf d in
     let p = pass (closeRules before after c) (search needs) h in
     let divides = divisor-positive (d .settings .rate) c (not-false _ (p .1 .0)) in
@@ -104,14 +117,19 @@ closing-told d r before after h =
     let weight : sumOf (d .daytime .booked) + 10 * sumOf (d .night .booked) ≤ 10 ^ 8 = omega (arith, r .fits .daytime .booked, r .fits .night .booked) in
     let f = formulaBy (d .settings .rate) (methodBy c) (c .totals) in
     test (methodOneHolds (c .totals))
-    (λ t. told-weighted (f .offset) (f .divisor) divides (rw t (lit≤ tt)) (rw t (lit≤ tt)) (energy-below (d .daytime)) (energy-below (d .night)))
-    (λ t. told-weighted (f .offset) (f .divisor) divides (rw t weight) (rw t weight) (energy-below (d .daytime)) (energy-below (d .night)))
+    (λ t. told-weighted (f .offset) (f .divisor) divides (rw t (lit≤ tt)) (rw t (lit≤ tt)) below-x below-y)
+    (λ t. told-weighted (f .offset) (f .divisor) divides (rw t weight) (rw t weight) below-x below-y)
 
 plain-closing : (d : Day) → Reached d → (before after : ℕ) → PlainClosing (closed d before after)
 plain-closing d r before after = go (firstOf (closeRules before after (countsOf d))) refl
   where
     go : (n : ℕ) → firstOf (closeRules before after (countsOf d)) ≡ n → PlainClosing (outcome n (closingOf d))
-    go zero h = (closing-told d r before after h, low-told (d .highest) (r .highest))
+    go zero h = (
+      closing-told d r before after h (energy-below (d .daytime)) (energy-below (d .night)),
+      closing-told d r before after h (r .ends Lowest true) (r .ends Lowest false),
+      closing-told d r before after h (r .ends Highest true) (r .ends Highest false),
+      low-told (d .highest) (r .highest),
+    )
     go (suc n) h = omega arith
 
 plain-mean : (fewest most : ℕ) (days : List Reading) → 0 < fewest → most ≤ 366 → Plain Told (meanOf fewest most days)
@@ -147,6 +165,14 @@ c-claim K day opening e calls call = go call
         (plain-closing d (w .2) before after)
         (classes-told d (w .2 .byClass) (closed d before after))
         (subst (λ (x : Day). Demanded K t x (closing before after)) (sym (w .1)) (claim K opening (w .0) (map callOf calls) (closing before after)))
+
+-- the lowest and the highest Ldn
+pub c-spread-law : CSpreadLaw
+c-spread-law day opening e calls before after lent x seen =
+    let w = whole day opening e calls in
+    let d = dayFrom (wordsOf day opening calls) in
+    let answered = closing-seen lent (closed d before after) (classesGiven d (closed d before after)) (plain-closing d (w .2) before after) in
+    spread-law opening (w .0) (map callOf calls) before after x (ap (λ (y : Day). closed y before after) (sym (w .1)) ∙ sym answered ∙ seen)
 
 -- the level of a record that calls through C wrote is that of the closing
 wrote-level : (d : ClosedDay) (n : ℕ) → Wrote d n → recordLevel n ≡ reading (d .kept .level)

@@ -10,6 +10,8 @@ use lib.ListN.{getD}
 use Rattle.quantity.specs.Rules.{refused, given, firstOf, outcome, follow}
 use Rattle.quantity.specs.Lent.{leaves}
 use Rattle.quantity.specs.Limits.{highestSample}
+use Rattle.quantity.specs.declared.Bound.{Bound}
+use Rattle.quantity.specs.declared.Bound.the-variants.{Lowest, Highest}
 use Rattle.quantity.specs.declared.HighestLevel.{HighestLevel}
 use Rattle.quantity.specs.declared.HighestLevel.the-variants as highests
 use Rattle.quantity.specs.declared.Level.{Level}
@@ -17,13 +19,13 @@ use Rattle.quantity.specs.Lists.{Each}
 use Rattle.quantity.proofs.Lists.{each-at, each-set, each-same}
 use Rattle.quantity.proofs.Instants.{ticks-back}
 use Rattle.quantity.proofs.Tests.{test}
-use Rattle.limbs.specs.Value.{value, base}
+use Rattle.limbs.specs.Value.{value, base, limbsOf}
 use Rattle.limbs.proofs.Digits.{value-limbsOf}
 use Rattle.event.specs.Event.{eventOf}
-use Rattle.exposure.specs.Exposure.{energyOf}
+use Rattle.exposure.specs.Exposure.{EnergyRange, energyRangeBy}
 use Rattle.event.specs.Window.{highest}
 use Rattle.ledger.specs.Book.{mostClasses}
-use Rattle.ledger.specs.Day.{Answered, noneInClass, noDay, Opening, openRules, openedDay, periodOf, withPeriod, energyIn, hourEnergy, endForNextDay}
+use Rattle.ledger.specs.Day.{Answered, noneInClass, noDay, Opening, openRules, openedDay, periodOf, withPeriod, energyIn, energyAtBound, hourEnergy, endForNextDay}
 use Rattle.admission.specs.Checks.{Offering, dayChecks, inDaytime}
 use Rattle.offering.specs.Offer.{withEvent, inHour, raised, raisedInClass, admitted, offeredBy, offered}
 use Rattle.ledger.specs.declared.ClassHighest.{ClassHighest}
@@ -41,7 +43,7 @@ use Rattle.c_interface.proofs.Written.{energy-told}
 use Rattle.c_accuracy.specs.Calls.{CCall, offer, close, callOf, lentTo, wordsAfter, wordsAfterCalls, wordsOf}
 use Rattle.c_accuracy.specs.Demand.{HeldLaw, EndLaw, CHourLaw}
 
--- what is known of a day that calls reach: it fits into its words, and no Lmax is above the limit
+-- what is known of a day that calls reach: it fits into its words, no Lmax is above the limit, and what is kept in four limbs is below 2 ^ 128
 abbrev pub Low : HighestLevel → Type 0
 Low (highests.At l) = l .0 ≤ highestSample
 Low highests.Nothing = Unit
@@ -56,6 +58,10 @@ pub record Reached (d : Day) : Type 0 where
   pub fits : DayFits d
   pub highest : Low (d .highest)
   pub byClass : AllLow (d .«highest_by_class»)
+  pub ends : (b : Bound) (p : Bool) → energyAtBound b (periodOf d p) < base ^ 4
+
+pub limbs-below : (n : ℕ) → value (limbsOf 4 n) < base ^ 4
+limbs-below n = rw value-limbsOf (mod-lt _ (lit< tt))
 
 -- an opening by the number of the refusal, 0 where there is none
 abbrev openedBy : Opening → ℕ → Answered Unit
@@ -73,8 +79,15 @@ module _ (day : List ℕ) (o : Opening) where
       go zero h e f = (h, refl, f)
       go (suc n) h e f = absurd (omega arith)
 
+fresh-ends : (o : Opening) (b : Bound) (p : Bool) → energyAtBound b (periodOf (openedDay o) p) < base ^ 4
+unfolding value
+fresh-ends o Lowest true = lit< tt
+fresh-ends o Lowest false = lit< tt
+fresh-ends o Highest true = lit< tt
+fresh-ends o Highest false = lit< tt
+
 fresh-reached : (o : Opening) → DayFits (openedDay o) → Reached (openedDay o)
-fresh-reached o f = record { fits = f; highest = tt; byClass = each-same LowClass mostClasses noneInClass tt }
+fresh-reached o f = record { fits = f; highest = tt; byClass = each-same LowClass mostClasses noneInClass tt; ends = fresh-ends o }
 
 -- so is the day after an offer
 raised-low : (h : HighestLevel) (l : Level) → Low h → l .0 ≤ highestSample → Low (raised h l)
@@ -89,6 +102,18 @@ same-highest : (d : Day) (b : Bool) (p : Period) → withPeriod d b p .highest �
 same-highest d true p = refl
 same-highest d false p = refl
 
+-- the sums at both ends after an event: those of its own period are raised in four limbs, the others stay
+event-below : (b : Bound) (p : Period) (class hour : ℕ) (S : EnergyRange) → energyAtBound b (withEvent p class hour S) < base ^ 4
+event-below Lowest p class hour S = limbs-below _
+event-below Highest p class hour S = limbs-below _
+
+ends-below : (d : Day) (own : Bool) (after : Period) (b : Bound) → energyAtBound b after < base ^ 4 → ((p : Bool) → energyAtBound b (periodOf d p) < base ^ 4)
+    → (p : Bool) → energyAtBound b (periodOf (withPeriod d own after) p) < base ^ 4
+ends-below d true after b h g true = h
+ends-below d true after b h g false = g false
+ends-below d false after b h g true = g true
+ends-below d false after b h g false = h
+
 same-by-class : (d : Day) (b : Bool) (p : Period) → withPeriod d b p .«highest_by_class» ≡ d .«highest_by_class»
 same-by-class d true p = refl
 same-by-class d false p = refl
@@ -99,8 +124,24 @@ offered-reached d o r = go (firstOf (dayChecks d o)) refl (offered-fits d o (r .
     by-day : Bool
     by-day = inDaytime (d .settings) (o .recording) (eventOf (o .samples))
 
+    class : ℕ
+    class = o .recording .class
+
+    hour : ℕ
+    hour = inHour d (o .recording) (eventOf (o .samples))
+
+    energy : EnergyRange
+    energy = energyRangeBy (eventOf (o .samples)) (o .recording .tolerance .0) (o .samples)
+
     after : Period
-    after = withEvent (periodOf d by-day) (o .recording .class) (inHour d (o .recording) (eventOf (o .samples))) (energyOf (o .samples))
+    after = withEvent (periodOf d by-day) class hour energy
+
+    ends-after : (b : Bound) (p : Bool) → energyAtBound b (periodOf (withPeriod d by-day after) p) < base ^ 4
+    ends-after b = ends-below d by-day after b (event-below b (periodOf d by-day) class hour energy) (r .ends b)
+
+    ends-entered : (b : Bound) (p : Bool) → energyAtBound b (periodOf (admitted d o .day) p) < base ^ 4
+    ends-entered b true = ends-after b true
+    ends-entered b false = ends-after b false
 
     entered-low : highest (o .samples) ≤ highestSample → Low (admitted d o .day .highest)
     entered-low h = raised-low (withPeriod d by-day after .highest) (eventOf (o .samples) .lmax) (rw (same-highest d by-day after) (r .highest)) h
@@ -117,6 +158,7 @@ offered-reached d o r = go (firstOf (dayChecks d o)) refl (offered-fits d o (r .
           fits = f;
           highest = entered-low (admits (d .settings .rate) o _ _ _ h .level);
           byClass = classes-low (admits (d .settings .rate) o _ _ _ h .level);
+          ends = ends-entered;
         }
     go (suc n) h f = r
 
@@ -161,7 +203,7 @@ held day o e calls = whole day o e calls .1
 
 -- the energy of a period is kept in four limbs, on any day
 pub energy-below : (p : Period) → energyIn p < base ^ 4
-energy-below p = rw value-limbsOf (mod-lt _ (lit< tt))
+energy-below p = limbs-below _
 
 -- the end to open the next day with
 pub end-law : EndLaw

@@ -1,4 +1,4 @@
--- Demand 3 through C (document 01, 'Powers', 'Day', 'Means'): the claims of the crate `accuracy`, of the numbers that a caller finds.
+-- Demand 3 through C (document 01, 'Powers', 'Day', 'Means'; document 02, W-205, W-208, W-211): the claims of the crate `accuracy`, of the numbers that a caller finds.
 use mathlib.Core.Path.{_≡_}
 use mathlib.Core.List.{List, [], _∷_, map}
 use Prim.Native.Nat.{ℕ}
@@ -9,7 +9,7 @@ use Rattle.quantity.specs.Answers.{Reading}
 use Rattle.quantity.specs.Instants.{ticksOf}
 use Rattle.quantity.specs.Lent.{Left}
 use Rattle.quantity.specs.Lists.{Each}
-use Rattle.quantity.specs.Rules.{Outcome, outcome}
+use Rattle.quantity.specs.Rules.{Outcome, given, outcome}
 use Rattle.ledger.specs.Day.{Opening, openedDay, endForNextDay}
 use Rattle.offering.specs.Offer.{Accepted}
 use Rattle.closing.specs.Close.{Closing}
@@ -17,6 +17,7 @@ use Rattle.accuracy.specs.Tally.{Tally, started, tallyOf}
 use Rattle.accuracy.specs.Terminal.{dayAfterCalls}
 use Rattle.accuracy.specs.Demand.{OfferDemanded, CloseDemanded}
 use Rattle.accuracy.specs.Hours.{ofHour, heldEnergy}
+use Rattle.accuracy.specs.Tolerance.{Spread}
 use Rattle.accuracy.specs.Means.{ClosedDay, Measured, MeanDemanded}
 use Rattle.day_words.specs.Words.{dayFrom}
 use Rattle.c_interface.specs.Numbers.{levelFrom, highestFrom, classLevelsFrom, energyFrom, recordLevel, recordMethod}
@@ -32,6 +33,8 @@ closeSeen l =
     outcome (l .answer)
     (record {
       ldn = recordLevel (l .lent .dayRecord);
+      lowestLdn = levelFrom (l .lent .lowestLdn);
+      highestLdn = levelFrom (l .lent .highestLdn);
       method = recordMethod (l .lent .dayRecord);
       dayEvents = getD (l .lent .counts) 0 0;
       nightEvents = getD (l .lent .counts) 1 0;
@@ -63,6 +66,13 @@ CHourLaw =
     (day : List ℕ) (o : Opening) → openLeaves day o .answer ≡ 0 → (calls : List CCall) (hour : ℕ)
     → let t = tallyOf (started o) (map callOf calls) in
     energyFrom (energyGiven (wordsOf day o calls) hour) ≡ heldEnergy (ofHour (t .settings .rate) hour (t .stretches))
+
+-- document 02, W-211: the lowest and the highest Ldn, as C gives them: every day whose samples lie in their ranges has its Ldn between them
+abbrev pub CSpreadLaw : Type 0
+CSpreadLaw =
+    (day : List ℕ) (o : Opening) → openLeaves day o .answer ≡ 0 → (calls : List CCall) (before after : ℕ) (lent : CloseLent) (x : Closing)
+    → closeSeen (closeLeaves lent (wordsOf day o calls) before after) ≡ given x
+    → Spread (tallyOf (started o) (map callOf calls)) x
 
 -- and for every K and one call more, what the caller reads stands in the demanded relation to the plain tally of the list
 abbrev pub CDemanded : ℕ → Tally → List ℕ → CCall → Type 0

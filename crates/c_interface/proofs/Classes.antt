@@ -13,7 +13,7 @@ use Rattle.closing.specs.Close.{Closed, closedReading}
 use Rattle.closing.specs.declared.Closing as reports
 use Rattle.closing.specs.declared.Closed as declared
 use Rattle.closing.specs.declared.CloseAnswer.the-variants as answers
-use Rattle.c_interface.specs.Numbers.{highestNumber, classNumbers, recordNumber}
+use Rattle.c_interface.specs.Numbers.{levelNumber, highestNumber, classNumbers, recordNumber}
 use Rattle.c_interface.specs.Calls.{CloseLent, closedLeaves}
 
 pub length-numbers : (cs : List ClassHighest) → length cs ≡ mostClasses → length (classNumbers (levelsByClass cs)) ≡ mostClasses
@@ -32,6 +32,8 @@ module _ (lent : CloseLent) (r : declared.Closed) {c : Closed} (same : closedRea
         answer = 0;
         lent = record {
           dayRecord = recordNumber (reading (x .answer .level)) (methodNumber (x .answer .method));
+          lowestLdn = levelNumber (reading (x .«lowest_ldn»));
+          highestLdn = levelNumber (reading (x .«highest_ldn»));
           counts = x .«day_events» ∷ x .«night_events» ∷ highestNumber (highestReading (x .highest)) ∷ [];
           highestByClass = classNumbers (levelsByClass (r .«highest_by_class»));
         };

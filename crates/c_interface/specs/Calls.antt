@@ -28,10 +28,18 @@ abbrev pub openLeaves : List ℕ → Opening → Left (List ℕ)
 openLeaves day o = leaves day (opened o .answer) (λ _. dayWords (opened o .day))
 
 -- an offer by its numbers
-abbrev pub offeringAs : (start : ℤ) (class wind : ℕ) (wet : Bool) (background : ℕ) → List ℕ → Offering
-offeringAs start class wind wet background samples =
+abbrev pub offeringAs : (start : ℤ) (class wind : ℕ) (wet : Bool) (background tolerance : ℕ) → List ℕ → Offering
+offeringAs start class wind wet background tolerance samples =
     record {
-      recording = record { start = instantOf start; class = class; wind = wind; wet = wet; background = record { 0 = background } };
+      recording =
+          record {
+            start = instantOf start;
+            class = class;
+            wind = wind;
+            wet = wet;
+            background = record { 0 = background };
+            tolerance = record { 0 = tolerance };
+          };
       samples = samples;
     }
 
@@ -55,9 +63,11 @@ endGiven day = afterMidnight (endForNextDay (dayFrom day))
 abbrev pub energyGiven : List ℕ → ℕ → List ℕ
 energyGiven day hour = energyNumbers (value (hourEnergy (dayFrom day) hour))
 
--- a closing: the day's record; Nd', Nn' and the highest Lmax; and the highest Lmax of each class
+-- a closing: the day's record; the lowest and the highest Ldn (W-211); Nd', Nn' and the highest Lmax; and the highest Lmax of each class
 pub record CloseLent : Type 0 where
   pub dayRecord : ℕ
+  pub lowestLdn : ℤ
+  pub highestLdn : ℤ
   pub counts : List ℕ
   pub highestByClass : List ℕ
 
@@ -66,6 +76,8 @@ closedLeaves lent closed =
     leaves lent (closed .answer)
     (λ c. record {
       dayRecord = recordNumber (c .ldn) (c .method);
+      lowestLdn = levelNumber (c .lowestLdn);
+      highestLdn = levelNumber (c .highestLdn);
       counts = c .dayEvents ∷ c .nightEvents ∷ highestNumber (c .highest) ∷ [];
       highestByClass = classNumbers (closed .highestByClass);
     })

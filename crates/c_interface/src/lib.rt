@@ -57,6 +57,7 @@ use quantity::Reading;
 use quantity::Refusal;
 use quantity::SignedLevel;
 use quantity::Tick;
+use quantity::Tolerance;
 
 // What stands for 'below scale': the lowest number of 32 bits, which is under every level.
 const BELOW_SCALE: i32 = -2147483648;
@@ -174,7 +175,7 @@ pub extern "C" fn moatburdock_open_day(
 }
 
 // Offers an event to a day: its start in ticks after midnight, negative before it, the class of the flight, the wind in tenths of m/s, rain, snow or thunder,
-// the background level and the samples. Gives LAE and Lmax.
+// the background level, the tolerance of the meter and the samples. Gives LAE and Lmax.
 #[no_mangle]
 pub extern "C" fn moatburdock_offer(
     day: &mut [u32; 320],
@@ -183,6 +184,7 @@ pub extern "C" fn moatburdock_offer(
     wind: u16,
     wet: bool,
     background: u32,
+    tolerance: u16,
     samples: &[u16],
     exposure: &mut i32,
     lmax: &mut u32,
@@ -192,7 +194,7 @@ pub extern "C" fn moatburdock_offer(
         record { answer = r; lent = record { day = now (day .exit); exposure = now (exposure .exit); lmax = now (lmax .exit) } }
         ≡ offerLeaves
         (record { day = now (day .entry); exposure = now (exposure .entry); lmax = now (lmax .entry) })
-        (offeringAs start class wind wet background (now (samples .entry)))
+        (offeringAs start class wind wet background tolerance (now (samples .entry)))
         ⌝ }
 {
     let recording = Recording {
@@ -201,6 +203,7 @@ pub extern "C" fn moatburdock_offer(
         wind,
         wet,
         background: Level(background),
+        tolerance: Tolerance(tolerance),
     };
     let offered = offering::offer(day_words::decode(day), recording, samples);
     let answer = offered.answer;
@@ -244,13 +247,16 @@ pub extern "C" fn moatburdock_hour_energy(day: &[u32; 320], hour: u32, energy: &
     *energy = [half_of(sum[0], sum[1]), half_of(sum[2], sum[3])];
 }
 
-// Closes a day, with the calibration levels before and after. Gives the day's record, and Nd', Nn' and the highest Lmax, and the highest Lmax of each class.
+// Closes a day, with the calibration levels before and after. Gives the day's record, the lowest and the highest Ldn within the tolerances of the meters, Nd',
+// Nn' and the highest Lmax, and the highest Lmax of each class.
 #[no_mangle]
 pub extern "C" fn moatburdock_close_day(
     day: &[u32; 320],
     before: u32,
     after: u32,
     day_record: &mut u64,
+    lowest_ldn: &mut i32,
+    highest_ldn: &mut i32,
     counts: &mut [u32; 3],
     highest_by_class: &mut [u32; 16],
 ) -> u8
@@ -260,6 +266,8 @@ pub extern "C" fn moatburdock_close_day(
           answer = r;
           lent = record {
             dayRecord = now (day_record .exit);
+            lowestLdn = now («lowest_ldn» .exit);
+            highestLdn = now («highest_ldn» .exit);
             counts = now (counts .exit);
             highestByClass = now («highest_by_class» .exit);
           };
@@ -267,6 +275,8 @@ pub extern "C" fn moatburdock_close_day(
         ≡ closeLeaves
         (record {
           dayRecord = now (day_record .entry);
+          lowestLdn = now («lowest_ldn» .entry);
+          highestLdn = now («highest_ldn» .entry);
           counts = now (counts .entry);
           highestByClass = now («highest_by_class» .entry);
         })
@@ -283,7 +293,11 @@ pub extern "C" fn moatburdock_close_day(
             let method = answer.method;
             let highest = closing.highest;
             let levels = closed.highest_by_class;
+            let lowest = closing.lowest_ldn;
+            let above = closing.highest_ldn;
             *day_record = record_of(ldn, method);
+            *lowest_ldn = level_number(lowest);
+            *highest_ldn = level_number(above);
             *counts = [
                 closing.day_events,
                 closing.night_events,

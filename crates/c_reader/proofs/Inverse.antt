@@ -7,29 +7,27 @@ use native.Mathlib.Omega.{arith}
 use lib.ListN.{length, take, getD, length-append}
 use lib.Seq.{take-at, getD-append-add}
 use Rattle.ledger.specs.declared.Day.{Day}
-use Rattle.day_words.specs.Words.{wordCount, dayWords, DayFits}
+use Rattle.ledger.specs.declared.Period.{Period}
+use Rattle.day_words.specs.Words.{wordCount, periodWords, dayWords, PeriodFits, DayFits}
 use Rattle.day_words.proofs.Inverse as day-words
 use Rattle.steps.specs.declared.Reader.{Reader}
 use Rattle.steps.specs.declared.Stage.{Stage}
 use Rattle.steps.specs.declared.Stage.the-variants.{Fresh, Events, Ended}
 use Rattle.c_reader.specs.Words.{stageNumber, stageFrom, placeWords, readerWords, readerFrom, InverseLaw, FreshLaw}
 
+length-period : (p : Period) → PeriodFits p → length (periodWords p) ≡ 136
+length-period p f =
+    simp length-append
+    (omega (arith, f .booked, f .accepted, f .cells, day-words.length-cell-words (p .cells) (f .limbs), f .lowest, f .highest))
+
 length-day : (d : Day) → DayFits d → length (dayWords d) ≡ wordCount
 unfolding dayWords
 length-day d f =
-    let p = f .daytime in
-    let q = f .night in
     simp length-append
     (omega (
       arith,
-      p .booked,
-      p .accepted,
-      p .cells,
-      day-words.length-cell-words (d .daytime .cells) (p .limbs),
-      q .booked,
-      q .accepted,
-      q .cells,
-      day-words.length-cell-words (d .night .cells) (q .limbs),
+      simp length-append at (length-period (d .daytime) (f .daytime)),
+      simp length-append at (length-period (d .night) (f .night)),
       day-words.two-words (d .highest),
       day-words.length-class-words (d .«highest_by_class»),
       f .byClass,

@@ -20,24 +20,32 @@ cameNumber (ends (given answer)) = 3
 cameNumber (ends (refused n)) = 4
 cameNumber nothing = 5
 
--- its six numbers: the first is 0 or the number of the refusal. Of an event: its number, the bits of LAE, and Lmax
+-- its eight numbers: the first is 0 or the number of the refusal. Of an event: its number, the bits of LAE, and Lmax
 abbrev pub eventNumbers : ℕ → Outcome Accepted → List ℕ
-eventNumbers i (refused n) = n ∷ i ∷ replicate 4 0
-eventNumbers i (given a) = 0 ∷ i ∷ levelBits (a .exposure) ∷ a .lmax ∷ replicate 2 0
+eventNumbers i (refused n) = n ∷ i ∷ replicate 6 0
+eventNumbers i (given a) = 0 ∷ i ∷ levelBits (a .exposure) ∷ a .lmax ∷ replicate 4 0
 
--- of a closing: the bits of Ldn, the method, Nd', Nn' and the highest Lmax
+-- of a closing: the bits of Ldn, the method, Nd', Nn', the highest Lmax, and the bits of the lowest and of the highest Ldn (W-211)
 abbrev pub closeNumbers : Outcome Closing → List ℕ
-closeNumbers (refused n) = n ∷ replicate 5 0
+closeNumbers (refused n) = n ∷ replicate 7 0
 closeNumbers (given c) =
-    0 ∷ levelBits (c .ldn) ∷ c .method ∷ c .dayEvents ∷ c .nightEvents ∷ highestNumber (c .highest) ∷ []
+    0
+    ∷ levelBits (c .ldn)
+    ∷ c .method
+    ∷ c .dayEvents
+    ∷ c .nightEvents
+    ∷ highestNumber (c .highest)
+    ∷ levelBits (c .lowestLdn)
+    ∷ levelBits (c .highestLdn)
+    ∷ []
 
 abbrev pub numbersFor : Coming → List ℕ
-numbersFor more = replicate 6 0
-numbersFor started = replicate 6 0
+numbersFor more = replicate 8 0
+numbersFor started = replicate 8 0
 numbersFor (answered i a) = eventNumbers i a
 numbersFor (ends (given answer)) = closeNumbers answer
-numbersFor (ends (refused n)) = n ∷ replicate 5 0
-numbersFor nothing = replicate 6 0
+numbersFor (ends (refused n)) = n ∷ replicate 7 0
+numbersFor nothing = replicate 8 0
 
 -- what is lent to a step; what was in `used`, `numbers` and `size` before does not matter
 pub record StepLent : Type 0 where

@@ -132,13 +132,15 @@ fn came_number(came: Came) -> u8
     }
 }
 
-fn event_numbers(number: u32, answer: OfferAnswer) -> [u32; 6]
+fn event_numbers(number: u32, answer: OfferAnswer) -> [u32; 8]
     ensures { λ r. ⌜ r ≡ eventNumbers number (offerOutcome answer) ⌝ }
 {
     match answer {
         OfferAnswer::Refused(refusal) => [
             quantity::refusal_number(refusal) as u32,
             number,
+            0,
+            0,
             0,
             0,
             0,
@@ -151,20 +153,33 @@ fn event_numbers(number: u32, answer: OfferAnswer) -> [u32; 6]
             lmax.0,
             0,
             0,
+            0,
+            0,
         ],
     }
 }
 
-fn close_numbers(answer: CloseAnswer) -> [u32; 6]
+fn close_numbers(answer: CloseAnswer) -> [u32; 8]
     ensures { λ r. ⌜ r ≡ closeNumbers (closeOutcome answer) ⌝ }
 {
     match answer {
-        CloseAnswer::Refused(refusal) => [quantity::refusal_number(refusal) as u32, 0, 0, 0, 0, 0],
+        CloseAnswer::Refused(refusal) => [
+            quantity::refusal_number(refusal) as u32,
+            0,
+            0,
+            0,
+            0,
+            0,
+            0,
+            0,
+        ],
         CloseAnswer::Closed(closing) => {
             let day_answer = closing.answer;
             let ldn = day_answer.level;
             let method = day_answer.method;
             let highest = closing.highest;
+            let lowest_ldn = closing.lowest_ldn;
+            let highest_ldn = closing.highest_ldn;
             [
                 0,
                 c_interface::level_bits(ldn),
@@ -172,21 +187,32 @@ fn close_numbers(answer: CloseAnswer) -> [u32; 6]
                 closing.day_events,
                 closing.night_events,
                 c_interface::highest_number(highest),
+                c_interface::level_bits(lowest_ldn),
+                c_interface::level_bits(highest_ldn),
             ]
         }
     }
 }
 
-fn numbers_of(came: Came) -> [u32; 6]
+fn numbers_of(came: Came) -> [u32; 8]
     ensures { λ r. ⌜ r ≡ numbersFor (comingReading came) ⌝ }
 {
     match came {
         Came::Answered { number, answer } => event_numbers(number, answer),
         Came::Closed(answer) => close_numbers(answer),
-        Came::Fault(refusal) => [quantity::refusal_number(refusal) as u32, 0, 0, 0, 0, 0],
-        Came::More => [0u32; 6],
-        Came::Started => [0u32; 6],
-        Came::Nothing => [0u32; 6],
+        Came::Fault(refusal) => [
+            quantity::refusal_number(refusal) as u32,
+            0,
+            0,
+            0,
+            0,
+            0,
+            0,
+            0,
+        ],
+        Came::More => [0u32; 8],
+        Came::Started => [0u32; 8],
+        Came::Nothing => [0u32; 8],
     }
 }
 
@@ -206,7 +232,7 @@ pub extern "C" fn moatburdock_read_step(
     window: &[u8],
     ended: bool,
     used: &mut usize,
-    numbers: &mut [u32; 6],
+    numbers: &mut [u32; 8],
     line: &mut [u8; 64],
     size: &mut usize,
 ) -> u8

@@ -7,7 +7,7 @@ use native.Mathlib.Nat.{mul-pos}
 use borrow.Author.Needs.{needs}
 use borrow.Author.Tests.{not-false, leb-true}
 use lib.Dec.{leb, ltb, eqb}
-use Rattle.quantity.specs.Answers.{Reading, highestReading}
+use Rattle.quantity.specs.Answers.{highestReading}
 use Rattle.quantity.specs.Numbers.{distance}
 use Rattle.quantity.specs.Rules.{firstOf, refused, given}
 use Rattle.quantity.proofs.Outcomes.{given-value, refused-alike, given-alike}
@@ -16,11 +16,10 @@ use Rattle.quantity.proofs.Tests.{test, both}
 use Rattle.clock.specs.declared.Rate.{Rate}
 use Rattle.clock.proofs.Rates.{rate-positive, ticks-positive}
 use Rattle.ledger.specs.Book.{mostClasses}
-use Rattle.ledger.specs.Day.{energyIn}
 use Rattle.ledger.specs.declared.Day.{Day}
 use Rattle.method.specs.Method.{Counts, allOf, sharesHold, methodOneHolds, methodTwoHolds, hasMethod, methodBy, methodRule, methodOf, totalsOf, countsOf}
-use Rattle.closing.specs.Formula.{formulaBy, levelBy}
-use Rattle.closing.specs.Close.{largestDrift, closeRules, closingOf, closed}
+use Rattle.closing.specs.Formula.{formulaBy}
+use Rattle.closing.specs.Close.{largestDrift, LdnRange, rangeBy, closeRules, closingOf, closed}
 
 -- a formula that is used divides by a number above 0
 pub divisor-positive : (rate : Rate) (c : Counts) → hasMethod c ≡ true → 0 < formulaBy rate (methodBy c) (c .totals) .divisor
@@ -53,10 +52,12 @@ module _ (day : Day) (before after : ℕ) (steady : ltb largestDrift (distance b
       let c = countsOf day in
       rw rules (sym (refused-alike (firstOf (methodRule c ∷ [])) (methodBy c) (closingOf day) e))
 
-  pub by-method : {m : ℕ} → methodOf (countsOf day) ≡ given m → {l : Reading}
-      → l ≡ levelBy (formulaBy (day .settings .rate) m (totalsOf day)) (energyIn (day .daytime)) (energyIn (day .night))
+  pub by-method : {m : ℕ} → methodOf (countsOf day) ≡ given m → {l : LdnRange}
+      → l ≡ rangeBy (formulaBy (day .settings .rate) m (totalsOf day)) day
       → given (record {
-        ldn = l;
+        ldn = l .recorded;
+        lowestLdn = l .lowest;
+        highestLdn = l .highest;
         method = m;
         dayEvents = totalsOf day .daytime .events;
         nightEvents = totalsOf day .night .events;

@@ -5,10 +5,9 @@ ghost use lib.Dec.{ltb};
 ghost use Rattle.quantity.specs.Answers.{reading, methodNumber};
 ghost use Rattle.quantity.specs.Numbers.{distance};
 ghost use Rattle.limbs.specs.Value.{base, value};
-ghost use Rattle.ledger.specs.Day.{energyIn};
 ghost use Rattle.method.specs.Sizes.{FewIn};
 ghost use Rattle.closing.specs.Formula.{formulaOne, formulaTwo, formulaBy, levelBy};
-ghost use Rattle.closing.specs.Close.{largestDrift, closeOutcome, closed, closedReading, dayClosed};
+ghost use Rattle.closing.specs.Close.{largestDrift, ldnRange, rangeBy, closeOutcome, closed, closedReading, dayClosed};
 use clock::Rate;
 use ledger::ClassHighest;
 use ledger::Day;
@@ -21,9 +20,12 @@ use quantity::Method;
 use quantity::Reading;
 use quantity::Refusal;
 
-// What closing reports: Ldn and its method, the accepted events by day and by night, and the highest Lmax.
+// What closing reports: Ldn and its method, the lowest and the highest Ldn within the tolerances of the meters, the accepted events by day and by night, and the
+// highest Lmax.
 pub struct Closing {
     pub answer: DayAnswer,
+    pub lowest_ldn: Reading,
+    pub highest_ldn: Reading,
     pub day_events: u32,
     pub night_events: u32,
     pub highest: HighestLevel,
@@ -47,6 +49,13 @@ pub struct Formula {
     pub night: u32,
     pub divisor: u32,
     pub offset: u32,
+}
+
+// Ldn of the recorded samples, and the lowest and the highest one within the tolerances of the meters.
+struct LdnRange {
+    recorded: Reading,
+    lowest: Reading,
+    highest: Reading,
 }
 
 // A night event counts tenfold (6-2), and so does a night flight (6-4).
@@ -114,17 +123,35 @@ fn weighted_sum(daytime: [u32; 4], night: [u32; 4], day_weight: u32, night_weigh
     total
 }
 
-// The level of a day's energies by a formula.
-fn level_by(formula: Formula, day: Day) -> Reading
+// The level of the energies by day and by night by a formula.
+fn level_by(formula: Formula, daytime: [u32; 4], night: [u32; 4]) -> Reading
     requires { ⌜ 0 < formula .divisor ⌝ }
-    ensures { λ r. ⌜ reading r ≡ levelBy formula (energyIn (day .daytime)) (energyIn (day .night)) ⌝ }
+    ensures { λ r. ⌜ reading r ≡ levelBy formula (value daytime) (value night) ⌝ }
+{
+    let sum = weighted_sum(daytime, night, formula.daytime, formula.night);
+    level::level_over(sum, formula.divisor, formula.offset)
+}
+
+// The levels of a day by a formula: of its recorded energies, and of those at the lowest and at the highest end of each sample's range.
+fn range_by(formula: Formula, day: Day) -> LdnRange
+    requires { ⌜ 0 < formula .divisor ⌝ }
+    ensures { λ r. ⌜ ldnRange r ≡ rangeBy formula day ⌝ }
 {
     let daytime = day.daytime;
     let night = day.night;
-    let day_energy = ledger::energy_of(daytime);
-    let night_energy = ledger::energy_of(night);
-    let sum = weighted_sum(day_energy, night_energy, formula.daytime, formula.night);
-    level::level_over(sum, formula.divisor, formula.offset)
+    let day_lowest = daytime.lowest;
+    let night_lowest = night.lowest;
+    let day_highest = daytime.highest;
+    let night_highest = night.highest;
+    LdnRange {
+        recorded: level_by(
+            formula,
+            ledger::energy_of(daytime),
+            ledger::energy_of(night),
+        ),
+        lowest: level_by(formula, day_lowest, night_lowest),
+        highest: level_by(formula, day_highest, night_highest),
+    }
 }
 
 // Refusal 11: the calibration levels differ by too much.
@@ -149,10 +176,15 @@ fn answer_of(day: Day, before: Level, after: Level) -> CloseAnswer
         MethodAnswer::By(method) => {
             let settings = day.settings;
             let rate = settings.rate;
-            let level = level_by(formula_by(rate, method, totals), day);
+            let ldn = range_by(formula_by(rate, method, totals), day);
+            let level = ldn.recorded;
+            let lowest_ldn = ldn.lowest;
+            let highest_ldn = ldn.highest;
             let highest = day.highest;
             CloseAnswer::Closed(Closing {
                 answer: DayAnswer { level, method },
+                lowest_ldn,
+                highest_ldn,
                 day_events: totals.daytime.events,
                 night_events: totals.night.events,
                 highest,

@@ -94,31 +94,49 @@ cells : (words : List ℕ) (at : ℕ) (cs : List Cell) (rest : List ℕ) → Eac
     → {count : ℕ} → length cs ≡ count → cellsFrom words at count ≡ cs
 cells words = entries words (λ c. c .energy) 4 (cellFrom words) (λ c at rest e s. ap (λ (l : List ℕ). record { energy = l }) (read words at (c .energy) rest s e))
 
--- a period is read from where it stands, and what is behind it stands 128 words on
+-- what stands behind the flights of the book of a period, behind its accepted events, behind its cells
+abbrev behindCells : Period → List ℕ → List ℕ
+behindCells p rest = p .lowest ++ (p .highest ++ rest)
+
+abbrev behindAccepted : Period → List ℕ → List ℕ
+behindAccepted p rest = cellWords (p .cells) ++ behindCells p rest
+
+abbrev behindBooked : Period → List ℕ → List ℕ
+behindBooked p rest = p .accepted ++ behindAccepted p rest
+
+-- a period is read from where it stands, and what is behind it stands 136 words on
 module _ (words : List ℕ) (at : ℕ) (p : Period) (f : PeriodFits p) (rest : List ℕ) (s : Stands words at (periodWords p) rest) where
-  booked-first : Stands words at (p .booked) (p .accepted ++ (cellWords (p .cells) ++ rest))
+  booked-first : Stands words at (p .booked) (behindBooked p rest)
   booked-first = s ∙ simp append-assoc
 
-  accepted-next : Stands words (at + 16) (p .accepted) (cellWords (p .cells) ++ rest)
-  accepted-next = behind words at (p .booked) (p .accepted ++ (cellWords (p .cells) ++ rest)) booked-first (at + 16) (omega (arith, f .booked))
+  accepted-next : Stands words (at + 16) (p .accepted) (behindAccepted p rest)
+  accepted-next = behind words at (p .booked) (behindBooked p rest) booked-first (at + 16) (omega (arith, f .booked))
 
-  cells-last : Stands words (at + 32) (cellWords (p .cells)) rest
-  cells-last = behind words (at + 16) (p .accepted) (cellWords (p .cells) ++ rest) accepted-next (at + 32) (omega (arith, f .accepted))
+  cells-next : Stands words (at + 32) (cellWords (p .cells)) (behindCells p rest)
+  cells-next = behind words (at + 16) (p .accepted) (behindAccepted p rest) accepted-next (at + 32) (omega (arith, f .accepted))
+
+  lowest-next : Stands words (at + 128) (p .lowest) (p .highest ++ rest)
+  lowest-next =
+      behind words (at + 32) (cellWords (p .cells)) (behindCells p rest) cells-next (at + 128)
+      (omega (arith, length-cell-words (p .cells) (f .limbs), f .cells))
+
+  highest-last : Stands words (at + 132) (p .highest) rest
+  highest-last = behind words (at + 128) (p .lowest) (p .highest ++ rest) lowest-next (at + 132) (omega (arith, f .lowest))
 
   period : periodFrom words at ≡ p
   period =
       rw (
-        read words at (p .booked) (p .accepted ++ (cellWords (p .cells) ++ rest)) booked-first (f .booked),
-        read words (at + 16) (p .accepted) (cellWords (p .cells) ++ rest) accepted-next (f .accepted),
-        cells words (at + 32) (p .cells) rest (f .limbs) cells-last (f .cells),
+        read words at (p .booked) (behindBooked p rest) booked-first (f .booked),
+        read words (at + 16) (p .accepted) (behindAccepted p rest) accepted-next (f .accepted),
+        cells words (at + 32) (p .cells) (behindCells p rest) (f .limbs) cells-next (f .cells),
+        read words (at + 128) (p .lowest) (p .highest ++ rest) lowest-next (f .lowest),
+        read words (at + 132) (p .highest) rest highest-last (f .highest),
         narrowed-same (p .booked) (f .booked-narrow),
         narrowed-same (p .accepted) (f .accepted-narrow),
       )
 
-  after : drop (at + 128) words ≡ rest
-  after =
-      behind words (at + 32) (cellWords (p .cells)) rest cells-last (at + 128)
-      (omega (arith, length-cell-words (p .cells) (f .limbs), f .cells))
+  after : drop (at + 136) words ≡ rest
+  after = behind words (at + 132) (p .highest) rest highest-last (at + 136) (omega (arith, f .highest))
 
 -- so is a highest level, and the highest level of each class, of 2 words
 highest : (h : HighestLevel) (rest : List ℕ) → (let l = highestWords h ++ rest in highestMarked (getD l 0 0) (getD l 1 0)) ≡ h
@@ -160,24 +178,24 @@ day-read words d rest fits s =
     let by-class = classWords (d .«highest_by_class») ++ set in
     let others = restWords d ++ by-class in
     let by-night = periodWords (d .night) ++ others in
-    let second : drop 128 words ≡ by-night = after words 0 (d .daytime) (fits .daytime) by-night s in
-    let third : drop 256 words ≡ others = after words 128 (d .night) (fits .night) others second in
-    let fourth : drop 260 words ≡ by-class = behind words 256 (restWords d) by-class third 260 (omega (arith, two-words (d .highest))) in
+    let second : drop 136 words ≡ by-night = after words 0 (d .daytime) (fits .daytime) by-night s in
+    let third : drop 272 words ≡ others = after words 136 (d .night) (fits .night) others second in
+    let fourth : drop 276 words ≡ by-class = behind words 272 (restWords d) by-class third 276 (omega (arith, two-words (d .highest))) in
     let levels = d .«highest_by_class» in
-    let fifth : drop 292 words ≡ set =
-    behind words 260 (classWords levels) set fourth 292 (omega (arith, length-class-words levels, fits .byClass)) in
-    let setting : (i : ℕ) → getD words (292 + i) 0 ≡ getD set i 0 = λ i. sym (getD-drop 292 words i 0) ∙ ap (λ (l : List ℕ). getD l i 0) fifth in
-    let word : (i : ℕ) → getD words (256 + i) 0 ≡ getD others i 0 = λ i. sym (getD-drop 256 words i 0) ∙ ap (λ (l : List ℕ). getD l i 0) third in
+    let fifth : drop 308 words ≡ set =
+    behind words 276 (classWords levels) set fourth 308 (omega (arith, length-class-words levels, fits .byClass)) in
+    let setting : (i : ℕ) → getD words (308 + i) 0 ≡ getD set i 0 = λ i. sym (getD-drop 308 words i 0) ∙ ap (λ (l : List ℕ). getD l i 0) fifth in
+    let word : (i : ℕ) → getD words (272 + i) 0 ≡ getD others i 0 = λ i. sym (getD-drop 272 words i 0) ∙ ap (λ (l : List ℕ). getD l i 0) third in
     rw (
       period words 0 (d .daytime) (fits .daytime) by-night s,
-      period words 128 (d .night) (fits .night) others second,
+      period words 136 (d .night) (fits .night) others second,
       word 0,
       word 1,
       word 2,
       word 3,
       mod-eq-of-lt (fits .classes),
       highest (d .highest) by-class,
-      classes words 260 levels set fourth (fits .byClass),
+      classes words 276 levels set fourth (fits .byClass),
       setting 0,
       setting 1,
       setting 2,
@@ -186,4 +204,4 @@ day-read words d rest fits s =
 
 pub inverse : InverseLaw
 unfolding dayWords
-inverse d fits = day-read (dayWords d) d (replicate 25 0) fits refl
+inverse d fits = day-read (dayWords d) d (replicate 9 0) fits refl

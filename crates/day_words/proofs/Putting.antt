@@ -17,7 +17,7 @@ use Rattle.day_words.specs.Words.{wordCount, wordsOfEach, periodWords, h
 -- the words of a day: what is used is put at the beginning of words that are 0
 pub put-day : (day : Day) {after : List ℕ} {next : ℕ}
     → Put (replicate wordCount 0) 0 (periodWords (day .daytime) ++ (periodWords (day .night) ++ (restWords day ++ (classWords (day .«highest_by_class») ++ settingsWords (day .settings))))) after next
-    → next ≡ 295 → after ≡ dayWords day
+    → next ≡ 311 → after ≡ dayWords day
 unfolding dayWords
 put-day day {after} {next} p e =
     p .run ∙ rw e (simp append-assoc)

@@ -25,7 +25,7 @@ use Rattle.ledger.specs.declared.Day.{Day}
 use Rattle.ledger.specs.declared.Period.{Period}
 use Rattle.ledger.proofs.Books.{book-fits}
 use Rattle.event.specs.Event.{eventOf}
-use Rattle.exposure.specs.Exposure.{energyOf}
+use Rattle.exposure.specs.Exposure.{EnergyRange, energyRangeBy}
 use Rattle.day_words.specs.Words.{Narrow, FourLimbs, PeriodFits, DayFits, OpenedLaw, OfferedLaw}
 
 length-padded : (k : ℕ) (xs : List ℕ) → length (padded k xs) ≡ k
@@ -61,6 +61,8 @@ fresh-period-fits flights narrow =
       accepted = length-replicate {A = ℕ} mostClasses 0;
       cells = length-replicate hours emptyCell;
       limbs = each-same FourLimbs hours emptyCell (length-replicate {A = ℕ} 4 0);
+      lowest = length-replicate {A = ℕ} 4 0;
+      highest = length-replicate {A = ℕ} 4 0;
       booked-narrow = narrow-padded mostClasses flights narrow;
       accepted-narrow = narrow-padded mostClasses [] (λ i. omega arith);
     }
@@ -99,13 +101,15 @@ opened-fits o = go (firstOf (openRules o)) refl
         fresh-fits _ _ daytime night (book-fits daytime night valid .0) (λ i. omega (arith, below-sum daytime i)) (λ i. omega (arith, below-sum night i))
     go (suc n) h = fresh-fits _ _ [] [] (omega arith) (λ i. omega arith) (λ i. omega arith)
 
-with-event-fits : (p : Period) (class hour S : ℕ) → PeriodFits p → HasFlight p class → PeriodFits (withEvent p class hour S)
+with-event-fits : (p : Period) (class hour : ℕ) (S : EnergyRange) → PeriodFits p → HasFlight p class → PeriodFits (withEvent p class hour S)
 with-event-fits p class hour S f left =
     record {
       booked = f .booked;
       accepted = rw length-set (f .accepted);
       cells = rw length-set (f .cells);
       limbs = each-set FourLimbs (p .cells) hour _ (f .limbs) (length-limbsOf 4 _);
+      lowest = length-limbsOf 4 _;
+      highest = length-limbsOf 4 _;
       booked-narrow = f .booked-narrow;
       accepted-narrow = narrow-set (p .accepted) class (f .accepted-narrow) (omega (arith, f .booked-narrow class));
     }
@@ -127,8 +131,8 @@ offered-fits d o f = go (firstOf (dayChecks d o)) refl
         let r = o .recording in
         let event = eventOf (o .samples) in
         let by-day = inDaytime (d .settings) r event in
-        let left = leb-false _ _ (pass (dayChecks d o) (search needs) h .1 .1 .1 .1 .1 .1 .1 .1 .0) in
-        let with-event = with-event-fits (periodOf d by-day) (r .class) (inHour d r event) (energyOf (o .samples)) (period-fits d by-day f) left in
+        let left = leb-false _ _ (pass (dayChecks d o) (search needs) h .1 .1 .1 .1 .1 .1 .1 .1 .1 .0) in
+        let with-event = with-event-fits (periodOf d by-day) (r .class) (inHour d r event) (energyRangeBy event (r .tolerance .0) (o .samples)) (period-fits d by-day f) left in
         let next = with-period-fits d by-day _ f with-event in
         record { classes = next .classes; daytime = next .daytime; night = next .night; byClass = rw length-set (next .byClass) }
     go (suc n) h = f

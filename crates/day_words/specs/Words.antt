@@ -1,5 +1,5 @@
--- A day as 320 words of 32 bits: for each period the flights of the book and the accepted events by class, and the limbs of its 24 cells; then the number of
--- classes, the end, whether there is a highest level, and that level; for each class the same of its own highest level; the settings; then words that are 0.
+-- A day as 320 words of 32 bits: for each period the flights of the book and the accepted events by class, the limbs of its 24 cells, and those of its lowest
+-- and of its highest energy; then the number of classes, the end, whether there is a highest level, and that level; for each class the same of its own highest level; the settings; then words that are 0.
 use mathlib.Core.Bool.{cond}
 use mathlib.Core.List.{List, [], _∷_, _++_, map}
 use Prim.Native.Nat.{ℕ, zero, suc, _+_, _%_, _<_}
@@ -34,9 +34,9 @@ wordsOfEach words (x ∷ xs) = words x ++ wordsOfEach words xs
 abbrev pub cellWords : List Cell → List ℕ
 cellWords = wordsOfEach (λ c. c .energy)
 
--- a period: 128 words
+-- a period: 136 words, the last eight by W-211
 abbrev pub periodWords : Period → List ℕ
-periodWords p = p .booked ++ (p .accepted ++ cellWords (p .cells))
+periodWords p = p .booked ++ (p .accepted ++ (cellWords (p .cells) ++ (p .lowest ++ p .highest)))
 
 -- the highest level: 1 and the level, or 0 and 0
 abbrev pub highestWords : HighestLevel → List ℕ
@@ -60,12 +60,12 @@ rateWord Forty = 2
 abbrev pub settingsWords : Settings → List ℕ
 settingsWords c = rateWord (c .rate) ∷ c .first .0 ∷ c .last .0 ∷ []
 
--- the words of a day: 295 that are used, and 25 that are 0
+-- the words of a day: 311 that are used, and 9 that are 0
 unfoldable pub dayWords : Day → List ℕ
 dayWords d =
     periodWords (d .daytime)
     ++ (periodWords (d .night)
-    ++ (restWords d ++ (classWords (d .«highest_by_class») ++ (settingsWords (d .settings) ++ replicate 25 0))))
+    ++ (restWords d ++ (classWords (d .«highest_by_class») ++ (settingsWords (d .settings) ++ replicate 9 0))))
 
 -- words from a place on; counts from a place on, each word modulo 2^16
 abbrev pub wordsAt : (words : List ℕ) (at count : ℕ) → List ℕ
@@ -91,7 +91,13 @@ cellsFrom words = readEach (cellFrom words) 4
 
 abbrev pub periodFrom : List ℕ → ℕ → Period
 periodFrom words at =
-    record { booked = countsAt words at 16; accepted = countsAt words (at + 16) 16; cells = cellsFrom words (at + 32) 24 }
+    record {
+      booked = countsAt words at 16;
+      accepted = countsAt words (at + 16) 16;
+      cells = cellsFrom words (at + 32) 24;
+      lowest = wordsAt words (at + 128) 4;
+      highest = wordsAt words (at + 132) 4;
+    }
 
 abbrev pub highestMarked : (mark level : ℕ) → HighestLevel
 highestMarked mark level = cond (eqb mark 0) highests.Nothing (highests.At (record { 0 = level }))
@@ -113,13 +119,13 @@ settingsFrom words at =
 unfoldable pub dayFrom : List ℕ → Day
 dayFrom words =
     record {
-      settings = settingsFrom words 292;
-      classes = getD words 256 0 % 256;
+      settings = settingsFrom words 308;
+      classes = getD words 272 0 % 256;
       daytime = periodFrom words 0;
-      night = periodFrom words 128;
-      end = instantAt (getD words 257 0);
-      highest = highestMarked (getD words 258 0) (getD words 259 0);
-      «highest_by_class» = classesFrom words 260 16;
+      night = periodFrom words 136;
+      end = instantAt (getD words 273 0);
+      highest = highestMarked (getD words 274 0) (getD words 275 0);
+      «highest_by_class» = classesFrom words 276 16;
     }
 
 -- a day whose lists have the places of their arrays, whose classes fit into 8 bits and whose counts into 16, as every day has that a program holds
@@ -134,6 +140,8 @@ pub record PeriodFits (p : Period) : Type 0 where
   pub accepted : length (p .accepted) ≡ 16
   pub cells : length (p .cells) ≡ hours
   pub limbs : Each FourLimbs (p .cells)
+  pub lowest : length (p .lowest) ≡ 4
+  pub highest : length (p .highest) ≡ 4
   pub booked-narrow : Narrow (p .booked)
   pub accepted-narrow : Narrow (p .accepted)
 

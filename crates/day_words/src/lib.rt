@@ -38,26 +38,31 @@ use quantity::Tick;
 // The words of a day. Those behind the last that is used are 0; fields to come take their places there.
 pub const DAY_WORDS: usize = 320;
 
-// Where the parts of a day begin: of a period its booked flights, its accepted events and its cells; of a day its periods and what stands behind them.
+// Where the parts of a day begin: of a period its booked flights, its accepted events, its cells, and its lowest and its highest energy; of a day its periods and
+// what stands behind them.
 const ACCEPTED: usize = 16;
 
 const CELLS: usize = 32;
 
+const LOWEST: usize = 128;
+
+const HIGHEST_ENERGY: usize = 132;
+
 const DAYTIME: usize = 0;
 
-const NIGHT: usize = 128;
+const NIGHT: usize = 136;
 
-const CLASSES: usize = 256;
+const CLASSES: usize = 272;
 
-const END: usize = 257;
+const END: usize = 273;
 
-const HIGHEST_MARK: usize = 258;
+const HIGHEST_MARK: usize = 274;
 
-const HIGHEST: usize = 259;
+const HIGHEST: usize = 275;
 
-const HIGHEST_BY_CLASS: usize = 260;
+const HIGHEST_BY_CLASS: usize = 276;
 
-const SETTINGS: usize = 292;
+const SETTINGS: usize = 308;
 
 // The limbs of a cell: an array of its own, so that its length is known where it is lent.
 fn limbs_of(cell: Cell) -> [u32; 4]
@@ -83,18 +88,22 @@ fn put_cells(words: &mut [u32], at: usize, cells: [Cell; 24]) -> usize
     place
 }
 
-// Puts a period, 128 words.
+// Puts a period, 136 words.
 fn put_period(words: &mut [u32; 320], at: usize, period: Period) -> usize
-    requires { ⌜ at + 128 ≤ wordCount ⌝ }
+    requires { ⌜ at + 136 ≤ wordCount ⌝ }
     ensures { λ r. ⌜ Put (now (words .entry)) at (periodWords period) (now (words .exit)) r ⌝ }
-    ensures place { λ r. ⌜ r ≡ at + 128 ⌝ }
+    ensures place { λ r. ⌜ r ≡ at + 136 ⌝ }
 {
     let booked = period.booked;
     let accepted = period.accepted;
     let cells = period.cells;
+    let lowest = period.lowest;
+    let highest = period.highest;
     let first = runs::put_counts(words, at, &booked);
     let second = runs::put_counts(words, first, &accepted);
-    put_cells(words, second, cells)
+    let third = put_cells(words, second, cells);
+    let fourth = runs::put_words(words, third, &lowest);
+    runs::put_words(words, fourth, &highest)
 }
 
 // A highest level: whether there is one, and that level.
@@ -216,13 +225,15 @@ fn cells_at(words: &[u32], at: usize) -> [Cell; 24]
 
 // The period at a place.
 fn period_at(words: &[u32], at: usize) -> Period
-    requires { ⌜ at + 128 ≤ length (now words) ⌝ }
+    requires { ⌜ at + 136 ≤ length (now words) ⌝ }
     ensures { λ r. ⌜ r ≡ periodFrom (now (words .entry)) at ⌝ }
 {
     Period {
         booked: counts_at(words, at),
         accepted: counts_at(words, at + ACCEPTED),
         cells: cells_at(words, at + CELLS),
+        lowest: limbs_at(words, at + LOWEST),
+        highest: limbs_at(words, at + HIGHEST_ENERGY),
     }
 }
 

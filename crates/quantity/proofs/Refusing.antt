@@ -89,3 +89,4 @@ refusal-positive refusals.ListUnfit = lit< tt
 refusal-positive refusals.RowsUnfit = lit< tt
 refusal-positive refusals.ThrustOutside = lit< tt
 refusal-positive refusals.AngleOutside = lit< tt
+refusal-positive refusals.ToleranceTooLarge = lit< tt

@@ -5,6 +5,10 @@ use Prim.Native.Nat.{ℕ}
 abbrev pub highestSample : ℕ
 highestSample = 14000
 
+-- 23 (document 02, W-211): no meter's tolerance is above it
+abbrev pub largestTolerance : ℕ
+largestTolerance = 300
+
 -- 14: no day's and no year's level is above it; the lowest one is that of the scale
 abbrev pub highestDayLevel : ℕ
 highestDayLevel = 20000

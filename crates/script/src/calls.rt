@@ -119,7 +119,15 @@ fn end_for_next_day(day: &[u32; 320]) -> Text {
     answers::with_signed(answered(0), c_interface::moatburdock_end_for_next_day(day))
 }
 
-// offer START CLASS WIND WET BACKGROUND / SAMPLES
+// The tolerance of an offer, the sixth number before '/'; without it 0.
+fn tolerance_of(numbers: &[u32], words: Words) -> u16 {
+    if words.slash < 6 {
+        return 0;
+    }
+    words::in_16_bits(words::number_at(numbers, 5))
+}
+
+// offer START CLASS WIND WET BACKGROUND TOLERANCE / SAMPLES
 fn offer(day: &mut [u32; 320], numbers: &[u32], words: Words) -> Text {
     let mut samples = [0u16; MOST_NUMBERS];
     words::copy_numbers(numbers, &mut samples);
@@ -132,6 +140,7 @@ fn offer(day: &mut [u32; 320], numbers: &[u32], words: Words) -> Text {
         words::in_16_bits(words::number_at(numbers, 2)),
         words::number_at(numbers, 3) != 0,
         words::number_at(numbers, 4),
+        tolerance_of(numbers, words),
         words::numbers_part(&samples, words.slash, words.count),
         &mut exposure,
         &mut lmax,
@@ -146,13 +155,17 @@ fn offer(day: &mut [u32; 320], numbers: &[u32], words: Words) -> Text {
 struct Closed {
     answer: u8,
     day_record: u64,
+    lowest_ldn: i32,
+    highest_ldn: i32,
     counts: [u32; 3],
     highest_by_class: [u32; 16],
 }
 
-// Closes a day at the calibration levels of a line. Before the call 7 stands in the place of each class.
+// Closes a day at the calibration levels of a line. Before the call 7 stands in the place of the lowest and of the highest Ldn, and of each class.
 fn close_day(day: &[u32; 320], numbers: &[u32]) -> Closed {
     let mut day_record = 0;
+    let mut lowest_ldn = 7;
+    let mut highest_ldn = 7;
     let mut counts = [0u32; 3];
     let mut highest_by_class = [7u32; 16];
     let answer = c_interface::moatburdock_close_day(
@@ -160,12 +173,16 @@ fn close_day(day: &[u32; 320], numbers: &[u32]) -> Closed {
         words::number_at(numbers, 0),
         words::number_at(numbers, 1),
         &mut day_record,
+        &mut lowest_ldn,
+        &mut highest_ldn,
         &mut counts,
         &mut highest_by_class,
     );
     Closed {
         answer,
         day_record,
+        lowest_ldn,
+        highest_ldn,
         counts,
         highest_by_class,
     }
@@ -183,6 +200,13 @@ fn close(day: &[u32; 320], numbers: &[u32]) -> Text {
     let by_day = answers::with_count(method, counts[0]);
     let by_night = answers::with_count(by_day, counts[1]);
     answers::with_lmax(by_night, counts[2])
+}
+
+// spread BEFORE AFTER: closes, and shows what then stands in the place of the lowest and of the highest Ldn
+fn spread(day: &[u32; 320], numbers: &[u32]) -> Text {
+    let closed = close_day(day, numbers);
+    let lowest = answers::with_level(answered(closed.answer), closed.lowest_ldn);
+    answers::with_level(lowest, closed.highest_ldn)
 }
 
 // highest BEFORE AFTER: closes, and shows what then stands in the place of each class
@@ -305,6 +329,7 @@ pub fn make(day: &mut [u32; 320], call: &[u8]) -> Text {
         b'n' => end_for_next_day(day),
         b'o' => offer(day, &numbers, words),
         b'c' => close(day, &numbers),
+        b's' => spread(day, &numbers),
         b'h' => hour_or_highest(day, &numbers, words::byte_at(call, 1)),
         b'w' => week(&numbers, words.count),
         b'y' => year(&numbers, words.count),

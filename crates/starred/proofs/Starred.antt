@@ -14,7 +14,7 @@ use Rattle.mean.specs.Mean.{meanOf, sumOfPowers, anyOutside}
 use Rattle.starred.specs.Starred.{starred, AllHold, closes}
 use Rattle.starred.proofs.Levels.{e-tens, read}
 
--- Ldn, in what closing answers
+-- Ldn, in what closing answers. Without a tolerance the sums at both ends compute to that of the recorded samples, so that one level is read off.
 with-ldn : {a b : Reading} {method dayEvents nightEvents : ℕ} {highest : Option ℕ}
     → a ≡ b
     → closes a method dayEvents nightEvents highest ≡ closes b method dayEvents nightEvents highest

@@ -89,7 +89,14 @@ abbrev pub flyover : (start : ℕ) → Offering
 flyover start =
     record {
       recording =
-          record { start = instantOf (pos start); class = 0; wind = 30; wet = false; background = record { 0 = 6000 } };
+          record {
+            start = instantOf (pos start);
+            class = 0;
+            wind = 30;
+            wet = false;
+            background = record { 0 = 6000 };
+            tolerance = record { 0 = 0 };
+          };
       samples = fiveSamples;
     }
 
@@ -112,10 +119,18 @@ at r = level (pos r)
 abbrev pub assessed : Finding → ℤ → Outcome Assessment
 assessed finding margin = given (record { finding = findingReading finding; margin = some margin })
 
--- what closing gives: Ldn, the method, Nd', Nn' and the highest Lmax
+-- what closing gives: Ldn, the method, Nd', Nn' and the highest Lmax. The flyovers have no tolerance, so the lowest and the highest Ldn (document 02, W-211) are Ldn itself.
 abbrev pub closes : (ldn : Reading) (method dayEvents nightEvents : ℕ) (highest : Option ℕ) → Outcome Closing
 closes ldn method dayEvents nightEvents highest =
-    given (record { ldn = ldn; method = method; dayEvents = dayEvents; nightEvents = nightEvents; highest = highest })
+    given (record {
+      ldn = ldn;
+      lowestLdn = ldn;
+      highestLdn = ldn;
+      method = method;
+      dayEvents = dayEvents;
+      nightEvents = nightEvents;
+      highest = highest;
+    })
 
 -- The starred cases in the paper's order. Without a sensitive building an Lmax above 9000 does not count. In the last two rows, nine of ten flights and eight of nine, the case is the method.
 abbrev pub starred : List Row

@@ -8,8 +8,17 @@ returns c = rw (c .refusal-number .ensures, c .before .before .answer .given .1)
 
 returns-2 : tie.Need-returns-2
 returns-2 c =
-    let level = c .before .before in
-    rw (c .highest-number .ensures, c .before .method-number .ensures, level .level-bits .ensures, level .before .before .before .answer2 .given .1)
+    let lowest = c .before in
+    let highest = lowest .before in
+    let level = highest .before .before in
+    rw (
+      c .level-bits3 .ensures,
+      lowest .level-bits2 .ensures,
+      highest .highest-number .ensures,
+      highest .before .method-number .ensures,
+      level .level-bits .ensures,
+      level .before .before .before .answer2 .given .1,
+    )
 
 pub close-numbers-spec : {M : Type 1} → statement M
 close-numbers-spec =
@@ -22,6 +31,8 @@ close-numbers-spec =
     (λ c κs. search needs)
     (λ c κs. search needs)
     (λ c. search needs)
+    (λ c κs. search needs)
+    (λ c κs. search needs)
     (λ c κs. search needs)
     returns
     returns-2)

@@ -22,8 +22,8 @@ method c = sym (c .before .before .before .choose-method .ensures .0 .1) ∙ ap 
 returns : tie.Need-returns
 returns c = let a = c .before .before .args in drifted (a .day) (a .before .0) (a .after .0) (sym (c .before .has-drifted .ensures) ∙ c .if1 .taken)
 
-level-by-requires : tie.Need-level-by-requires
-level-by-requires c κs =
+range-by-requires : tie.Need-range-by-requires
+range-by-requires c κs =
     let k = c .before .before .before .before .before .before in
     let day = k .before .before .before .args .day in
     rw (c .formula-by .ensures, k .choose-method .ensures .0 .0) (divides (day .settings .rate) (countsOf day) (method (c .before .before .before)))
@@ -40,7 +40,7 @@ returns-3 c =
     let a = k .before .before .before .args in
     let totals = k .choose-method .ensures .0 .0 in
     rw totals
-    (by-method (a .day) (a .before .0) (a .after .0) (steady k) (method (c .before .before .before .before)) (c .level-by .ensures ∙ rw (c .before .formula-by .ensures, totals)))
+    (by-method (a .day) (a .before .0) (a .after .0) (steady k) (method (c .before .before .before .before)) (c .range-by .ensures ∙ rw (c .before .formula-by .ensures, totals)))
 
 pub answer-of-spec : {M : Type 1} → statement M
 answer-of-spec =
@@ -52,6 +52,6 @@ answer-of-spec =
     (λ c. search needs)
     (λ c. search needs)
     (λ c κs. search needs)
-    level-by-requires
+    range-by-requires
     returns-2
     returns-3)

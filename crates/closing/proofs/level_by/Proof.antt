@@ -6,9 +6,7 @@ use Rattle.closing.proofs.level_by.Statement.{statement}
 use Rattle.closing.proofs.level_by.Tie as tie
 
 returns : tie.Need-returns
-returns c =
-    let energies = c .before .before in
-    c .level-over .ensures ∙ ap (levelOf _ _) (c .before .weighted-sum .ensures .0 ∙ rw (energies .before .energy-of .ensures, energies .energy-of2 .ensures))
+returns c = c .level-over .ensures ∙ ap (levelOf _ _) (c .before .weighted-sum .ensures .0)
 
 pub level-by-spec : {M : Type 1} → statement M
-level-by-spec = tie.close (tie.spec (λ c κs. search needs) (λ c κs. search needs) (λ c κs. search needs) (λ c κs. search needs) returns)
+level-by-spec = tie.close (tie.spec (λ c κs. search needs) (λ c κs. search needs) returns)
