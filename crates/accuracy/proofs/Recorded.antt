@@ -18,7 +18,7 @@ use Rattle.method.specs.Method.{countsOf}
 use Rattle.closing.specs.Close.{closeRules, closingOf, classesGiven}
 use Rattle.accuracy.specs.Tally.{Call, offering, closing}
 use Rattle.accuracy.specs.Terminal.{dayAfterCalls, dayAfterCallsBy}
-use Rattle.accuracy.specs.Recorded.{exactly, rulesBefore, offeredExactly, withoutEnds, ClosingBefore, closingBefore, closedBefore, Allowed, AllowedCall, RecordedLaw}
+use Rattle.accuracy.specs.Recorded.{exactly, rulesBefore, offeredExactly, withoutEnds, RecordedClosing, recordedIn, closedRecorded, Allowed, AllowedCall, RecordedLaw}
 
 -- no rule reads the sums at both ends
 same-used : (day : Day) (p : Bool) (class : ℕ) → usedUp (periodOf (withoutEnds day) p) class ≡ usedUp (periodOf day p) class
@@ -71,11 +71,11 @@ module _ (now then : Day) (alike : withoutEnds now ≡ withoutEnds then) where
         rw (same-number allowed) (same-answer n, same-day n)
 
 -- a closing does not read them but for the lowest and the highest Ldn
-same-closed : (day : Day) (before after : ℕ) → closedBefore (withoutEnds day) before after ≡ closedBefore day before after
+same-closed : (day : Day) (before after : ℕ) → closedRecorded (withoutEnds day) before after ≡ closedRecorded day before after
 same-closed day before after = by-number (firstOf (closeRules before after (countsOf day)))
   where
-    closedBy : Day → ℕ → Outcome ClosingBefore
-    closedBy d n = let answer = outcome n (closingOf d) in closingBefore (record { answer = answer; highestByClass = classesGiven d answer })
+    closedBy : Day → ℕ → Outcome RecordedClosing
+    closedBy d n = let answer = outcome n (closingOf d) in recordedIn (record { answer = answer; highestByClass = classesGiven d answer })
 
     by-number : (n : ℕ) → closedBy (withoutEnds day) n ≡ closedBy day n
     by-number zero = refl
@@ -95,7 +95,7 @@ recorded-law =
       offers = λ now then alike o allowed. offers-alike now then alike o allowed;
       days = λ day calls allowed. days-alike day day refl calls allowed;
       closings = λ now then alike. (
-        λ before after. sym (same-closed now before after) ∙ ap (λ (day : Day). closedBefore day before after) alike ∙ same-closed then before after,
+        λ before after. sym (same-closed now before after) ∙ ap (λ (day : Day). closedRecorded day before after) alike ∙ same-closed then before after,
         λ hour. ap (λ (day : Day). hourEnergy day hour) alike,
         ap endForNextDay alike,
       );

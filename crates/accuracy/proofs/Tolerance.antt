@@ -95,11 +95,11 @@ module _ {t s : Tally} (b : Bounded t) (c : Bounded s) (rate : s .settings .rate
       rw same-ldn (in-between b positive (map (λ k. k .levels) (s .stretches)) (alike-in-ranges (t .stretches) (s .stretches) same))
 
 pub other-day-law : OtherDayLaw
-other-day-law d other alike before after x y closes closesOther method =
+other-day-law d other alike before after otherBefore otherAfter x y closes closesOther method =
     let a = agree (d .opening) (d .opens) (d .calls) in
     let o = agree (other .opening) (other .opens) (other .calls) in
     let k = known (a .bounded) before after (ap (λ (day : Day). closed day before after) (sym (a .same)) ∙ closes) in
-    let l = known (o .bounded) before after (ap (λ (day : Day). closed day before after) (sym (o .same)) ∙ closesOther) in
+    let l = known (o .bounded) otherBefore otherAfter (ap (λ (day : Day). closed day otherBefore otherAfter) (sym (o .same)) ∙ closesOther) in
     let book : (p : Bool) → tallyIn other .book p ≡ tallyIn d .book p = λ p.
     book-in-tally (started (other .opening)) (other .calls) p
     ∙ (λ i. bookOf (alike .daytime i) (alike .night i) p)

@@ -1,5 +1,6 @@
 -- Document 02, W-202: at rate 10 with ticks 216000 and 791999 every answer is the one before that request. Here stands what a call answers by, with the
--- numbers of document 01, of W-205 for rule 2 and of W-211 for rule 23, written out: such a day is opened, checks its offers, forms its levels and closes by these numbers alone.
+-- numbers of document 01, of W-205 for rule 2 and of W-211 for rule 23, written out: such a day is opened, checks its offers, forms its levels and closes by
+-- these numbers alone.
 use mathlib.Core.Path.{_≡_}
 use mathlib.Core.Bool.{Bool, _&&_, _||_, not}
 use mathlib.Core.List.{List}

@@ -54,8 +54,8 @@ withoutEnds day =
       «highest_by_class» = day .«highest_by_class»;
     }
 
--- what a closing gave before
-pub record ClosingBefore : Type 0 where
+-- what a closing gave before that request
+pub record RecordedClosing : Type 0 where
   pub ldn : Reading
   pub method : ℕ
   pub dayEvents : ℕ
@@ -63,8 +63,8 @@ pub record ClosingBefore : Type 0 where
   pub highest : Option ℕ
   pub highestByClass : List (Option ℕ)
 
-abbrev pub closingBefore : Closed → Outcome ClosingBefore
-closingBefore c =
+abbrev pub recordedIn : Closed → Outcome RecordedClosing
+recordedIn c =
     follow (c .answer) refused (λ x.
     given (record {
       ldn = x .ldn;
@@ -75,8 +75,8 @@ closingBefore c =
       highestByClass = c .highestByClass;
     }))
 
-abbrev pub closedBefore : Day → (before after : ℕ) → Outcome ClosingBefore
-closedBefore day before after = closingBefore (dayClosed day before after)
+abbrev pub closedRecorded : Day → (before after : ℕ) → Outcome RecordedClosing
+closedRecorded day before after = recordedIn (dayClosed day before after)
 
 -- a tolerance that 23 lets through
 abbrev pub Allowed : Offering → Type 0
@@ -94,6 +94,6 @@ pub record RecordedLaw : Type 0 where
       → (offered now o .answer ≡ offeredExactly then o .answer) × (withoutEnds (offered now o .day) ≡ withoutEnds (offeredExactly then o .day))
   pub days : (day : Day) (calls : List Call) → Each AllowedCall calls → withoutEnds (dayAfterCalls day calls) ≡ withoutEnds (dayAfterCallsBy offeredExactly day calls)
   pub closings : (now then : Day) → withoutEnds now ≡ withoutEnds then
-      → ((before after : ℕ) → closedBefore now before after ≡ closedBefore then before after)
+      → ((before after : ℕ) → closedRecorded now before after ≡ closedRecorded then before after)
       × ((hour : ℕ) → hourEnergy now hour ≡ hourEnergy then hour)
       × (endForNextDay now ≡ endForNextDay then)

@@ -83,8 +83,8 @@ pub record DayInRange (d other : CalledDay) : Type 0 where
 
 abbrev pub OtherDayLaw : Type 0
 OtherDayLaw =
-    (d other : CalledDay) → DayInRange d other → (before after : ℕ) (x y : Closing)
+    (d other : CalledDay) → DayInRange d other → (before after otherBefore otherAfter : ℕ) (x y : Closing)
     → closed (dayOf d) before after ≡ given x
-    → closed (dayOf other) before after ≡ given y
+    → closed (dayOf other) otherBefore otherAfter ≡ given y
     → y .method ≡ x .method
     → Between x (y .ldn)

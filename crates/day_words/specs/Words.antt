@@ -1,5 +1,6 @@
 -- A day as 320 words of 32 bits: for each period the flights of the book and the accepted events by class, the limbs of its 24 cells, and those of its lowest
--- and of its highest energy; then the number of classes, the end, whether there is a highest level, and that level; for each class the same of its own highest level; the settings; then words that are 0.
+-- and of its highest energy; then the number of classes, the end, whether there is a highest level, and that level; for each class the same of its own highest
+-- level; the settings; then words that are 0.
 use mathlib.Core.Bool.{cond}
 use mathlib.Core.List.{List, [], _∷_, _++_, map}
 use Prim.Native.Nat.{ℕ, zero, suc, _+_, _%_, _<_}

@@ -119,7 +119,8 @@ at r = level (pos r)
 abbrev pub assessed : Finding → ℤ → Outcome Assessment
 assessed finding margin = given (record { finding = findingReading finding; margin = some margin })
 
--- what closing gives: Ldn, the method, Nd', Nn' and the highest Lmax. The flyovers have no tolerance, so the lowest and the highest Ldn (document 02, W-211) are Ldn itself.
+-- what closing gives: Ldn, the method, Nd', Nn' and the highest Lmax. The flyovers have no tolerance, so the lowest and the highest Ldn (document 02,
+-- W-211) are Ldn itself.
 abbrev pub closes : (ldn : Reading) (method dayEvents nightEvents : ℕ) (highest : Option ℕ) → Outcome Closing
 closes ldn method dayEvents nightEvents highest =
     given (record {
