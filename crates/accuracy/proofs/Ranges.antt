@@ -1,17 +1,19 @@
 -- Samples in their ranges: energies rise from the lowest end to the highest; and the stretches that a tally holds, with such samples.
 use mathlib.Core.Path.{_≡_, refl, ap, ap₂, _∙_}
-use mathlib.Core.Bool.{Bool, cond}
+use mathlib.Core.Bool.{Bool, true, false, cond}
 use mathlib.Core.List.{List, [], _∷_, map}
 use Prim.Native.Nat.{ℕ, _+_, _≤_, _<_, zero-le}
+use native.Mathlib.Nat.{add-le-add}
 use native.Mathlib.Omega.{arith}
 use lib.ListN.{length, replicate, length-map}
 use Rattle.quantity.specs.Limits.{highestSample}
 use Rattle.quantity.specs.Lists.{Each}
-use Rattle.quantity.specs.Tolerance.{boundOf, atBound}
+use Rattle.quantity.specs.Tolerance.{boundOf, atBound, Within}
 use Rattle.quantity.specs.declared.Bound.{Bound}
 use Rattle.quantity.specs.declared.Bound.the-variants.{Lowest, Highest}
 use Rattle.quantity.proofs.Tests.{test}
 use Rattle.quantity.proofs.Ranges.{sample-within, end-within}
+use Rattle.power.specs.Power.{e}
 use Rattle.power.proofs.Scale.{e-mono}
 use Rattle.limbs.specs.Value.{value, limbsOf}
 use Rattle.event.specs.Window.{highest}
@@ -34,20 +36,47 @@ samples-in-range : (u : ℕ) (s : List ℕ) → highest s ≤ highestSample → 
 samples-in-range u [] low = tt
 samples-in-range u (c ∷ cs) low = (sample-within c (omega arith) u, samples-in-range u cs (omega arith))
 
--- energies of samples in the range
-lowest-energy : (u : ℕ) (cs ss : List ℕ) → InRange u cs ss → energies (atBound Lowest u cs) ≤ energies ss
-unfolding energies
-lowest-energy u [] [] r = zero-le
-lowest-energy u [] (s ∷ ss) r = absurd r
-lowest-energy u (c ∷ cs) [] r = absurd r
-lowest-energy u (c ∷ cs) (s ∷ ss) r = omega (arith, e-mono (r .0 .0), lowest-energy u cs ss (r .1))
+-- what an end comes to lies on its own side of what any level of the range comes to: the lowest is not above it, the highest not below
+pub data Outside : Bound → (end n : ℕ) → Type 0 where
+  not-above : {end n : ℕ} → end ≤ n → Outside Lowest end n
+  not-below : {end n : ℕ} → n ≤ end → Outside Highest end n
 
-highest-energy : (u : ℕ) (cs ss : List ℕ) → InRange u cs ss → energies ss ≤ energies (atBound Highest u cs)
+outside-none : (b : Bound) → Outside b 0 0
+outside-none Lowest = not-above zero-le
+outside-none Highest = not-below zero-le
+
+outside-sum : {b : Bound} {c d m n : ℕ} → Outside b c m → Outside b d n → Outside b (c + d) (m + n)
+outside-sum (not-above h) (not-above g) = not-above (add-le-add h g)
+outside-sum (not-below h) (not-below g) = not-below (add-le-add h g)
+
+outside-power : {b : Bound} {c n : ℕ} → Outside b c n → Outside b (e c) (e n)
+outside-power (not-above h) = not-above (e-mono h)
+outside-power (not-below h) = not-below (e-mono h)
+
+outside-range : (b : Bound) (u c s : ℕ) → Within u c s → Outside b (boundOf b u c) s
+outside-range Lowest u c s w = not-above (w .0)
+outside-range Highest u c s w = not-below (w .1)
+
+outside-energy : (b : Bound) (u : ℕ) (cs ss : List ℕ) → InRange u cs ss → Outside b (energies (atBound b u cs)) (energies ss)
 unfolding energies
-highest-energy u [] [] r = zero-le
-highest-energy u [] (s ∷ ss) r = absurd r
-highest-energy u (c ∷ cs) [] r = absurd r
-highest-energy u (c ∷ cs) (s ∷ ss) r = omega (arith, e-mono (r .0 .1), highest-energy u cs ss (r .1))
+outside-energy b u [] [] r = outside-none b
+outside-energy b u [] (s ∷ ss) r = absurd r
+outside-energy b u (c ∷ cs) [] r = absurd r
+outside-energy b u (c ∷ cs) (s ∷ ss) r = outside-sum (outside-power (outside-range b u c s (r .0))) (outside-energy b u cs ss (r .1))
+
+-- so it is for the energy of a period
+outside-part : (b : Bound) (own : Bool) {c n : ℕ} → Outside b c n → Outside b (cond own c 0) (cond own n 0)
+outside-part b true h = h
+outside-part b false h = outside-none b
+
+pub outside-period : (b : Bound) (p : Bool) (hs : List Held) (ss : List (List ℕ)) → InRanges hs ss
+    → Outside b (periodEnergy p (map (heldAt b) hs)) (periodEnergy p (withSamples hs ss))
+unfolding periodEnergy
+outside-period b p [] [] r = outside-none b
+outside-period b p [] (s ∷ ss) r = absurd r
+outside-period b p (h ∷ hs) [] r = absurd r
+outside-period b p (h ∷ hs) (s ∷ ss) r =
+    outside-sum (outside-part b (sameAs (h .daytime) p) (outside-energy b (h .tolerance) (h .levels) s (r .0))) (outside-period b p hs ss (r .1))
 
 -- the stretches with each sample at an end lie where they lay, and none of their samples is above the highest level
 pub apart-at : (b : Bound) (end : ℕ) (hs : List Held) → Apart end hs → Apart end (map (heldAt b) hs)
@@ -79,30 +108,6 @@ all-exact b [] low none = refl
 all-exact b (h ∷ hs) low none =
     let same : atBound b (h .tolerance) (h .levels) ≡ h .levels = rw (none .0) (ends-exact b (h .levels) (low .0 .1)) in
     ap₂ _∷_ (ap (withLevels h) same) (all-exact b hs (low .1) (none .1))
-
--- the energy of a period with samples in their ranges lies between those of both ends
-module _ (p : Bool) where
-  pub lowest-period : (hs : List Held) (ss : List (List ℕ)) → InRanges hs ss → periodEnergy p (map (heldAt Lowest) hs) ≤ periodEnergy p (withSamples hs ss)
-  unfolding periodEnergy
-  lowest-period [] [] r = zero-le
-  lowest-period [] (s ∷ ss) r = absurd r
-  lowest-period (h ∷ hs) [] r = absurd r
-  lowest-period (h ∷ hs) (s ∷ ss) r =
-      let rest = lowest-period hs ss (r .1) in
-      test (sameAs (h .daytime) p)
-      (λ t. rw t (omega (arith, lowest-energy (h .tolerance) (h .levels) s (r .0))))
-      (λ f. rw f (omega arith))
-
-  pub highest-period : (hs : List Held) (ss : List (List ℕ)) → InRanges hs ss → periodEnergy p (withSamples hs ss) ≤ periodEnergy p (map (heldAt Highest) hs)
-  unfolding periodEnergy
-  highest-period [] [] r = zero-le
-  highest-period [] (s ∷ ss) r = absurd r
-  highest-period (h ∷ hs) [] r = absurd r
-  highest-period (h ∷ hs) (s ∷ ss) r =
-      let rest = highest-period hs ss (r .1) in
-      test (sameAs (h .daytime) p)
-      (λ t. rw t (omega (arith, highest-energy (h .tolerance) (h .levels) s (r .0))))
-      (λ f. rw f (omega arith))
 
 -- stretches that are others but for their samples: as many in each period, and the energies of the others with those samples
 pub alike-in-ranges : (hs ks : List Held) → SameButSamples hs ks → InRanges hs (map (λ k. k .levels) ks)

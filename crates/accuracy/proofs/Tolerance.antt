@@ -22,14 +22,20 @@ use Rattle.accuracy.specs.Laws.{periodEnergy}
 use Rattle.accuracy.specs.Demand.{ldnAt}
 use Rattle.accuracy.specs.Terminal.{tallyIn}
 use Rattle.accuracy.specs.Tolerance.{InRanges, withSamples, ldnOf, Between, Spread, SpreadLaw, SameButSamples, OtherDayLaw}
-use Rattle.accuracy.proofs.Ranges.{all-recorded, with-recorded, all-ends, all-exact, lowest-period, highest-period, alike-in-ranges, alike-count, alike-energy}
+use Rattle.accuracy.proofs.Ranges.{all-recorded, with-recorded, all-ends, all-exact, Outside, not-above, not-below, outside-period, alike-in-ranges, alike-count, alike-energy}
 use Rattle.accuracy.proofs.Agreement.{dayOfTally, Bounded}
 use Rattle.accuracy.proofs.Closings.{tallyClosing, tallyFormula, formula-divides, closed-same}
 use Rattle.accuracy.proofs.Claim.{always, agree, settings-in-tally, book-in-tally}
 
--- a level by a formula rises with the energies of both periods
+-- a level by a formula rises with the energies of both periods, so that at an end it lies on that side too
 formula-rises : (f : Formula) {d n d′ n′ : ℕ} → 0 < f .divisor → d ≤ d′ → n ≤ n′ → NoHigher (levelBy f d n) (levelBy f d′ n′)
 formula-rises f positive h g = level-rises (f .offset) (f .divisor) positive (add-le-add (mul-le-mul-left (f .daytime) h) (mul-le-mul-left (f .night) g))
+
+from-lowest : (f : Formula) {d n d′ n′ : ℕ} → 0 < f .divisor → Outside Lowest d d′ → Outside Lowest n n′ → NoHigher (levelBy f d n) (levelBy f d′ n′)
+from-lowest f positive (not-above h) (not-above g) = formula-rises f positive h g
+
+to-highest : (f : Formula) {d n d′ n′ : ℕ} → 0 < f .divisor → Outside Highest d d′ → Outside Highest n n′ → NoHigher (levelBy f d′ n′) (levelBy f d n)
+to-highest f positive (not-below h) (not-below g) = formula-rises f positive h g
 
 -- what a tally is closed with
 module _ {t : Tally} (b : Bounded t) (positive : 0 < tallyFormula t .divisor) where
@@ -41,10 +47,11 @@ module _ {t : Tally} (b : Bounded t) (positive : 0 < tallyFormula t .divisor) wh
   the-ends Highest = refl
 
   in-between : (samples : List (List ℕ)) → InRanges hs samples → Between (tallyClosing t) (ldnOf t (withSamples hs samples))
-  in-between samples r = (
-    formula-rises (tallyFormula t) positive (lowest-period true hs samples r) (lowest-period false hs samples r),
-    formula-rises (tallyFormula t) positive (highest-period true hs samples r) (highest-period false hs samples r),
-  )
+  in-between samples r =
+      let f = tallyFormula t in (
+        from-lowest f positive (outside-period Lowest true hs samples r) (outside-period Lowest false hs samples r),
+        to-highest f positive (outside-period Highest true hs samples r) (outside-period Highest false hs samples r),
+      )
 
   as-recorded : Between (tallyClosing t) (tallyClosing t .ldn)
   as-recorded =
