@@ -1,8 +1,8 @@
 /* Moatburdock: the ledger of an airport noise terminal, proved.
  *
  * Link with target/staticlib/libmoatburdock.a, which tools/c_library writes. The library keeps nothing between calls, allocates nothing and calls
- * nothing but memcpy and memset: all that it reads and writes is what it is lent here. An offer takes 14 kB of stack, and a step of the reader, which has a
- * room for the longest window of its own, 69 kB.
+ * nothing but memcpy and memset: all that it reads and writes is what it is lent here. An offer takes 15 kB of stack, and a step of the reader, which has a
+ * room for the longest window of its own, 72 kB.
  *
  * Levels and the tolerances of meters are hundredths of a decibel, wind tenths of m/s. Samples, backgrounds, calibration levels and Lmax are 0 or more. LAE,
  * Ldn and the means have a sign: their scale begins at -5000, that is -50 dB, and whatever is less is below scale. Times are ticks after local midnight,
