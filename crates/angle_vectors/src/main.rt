@@ -1,5 +1,7 @@
 // The correction behind the start of roll, at many angles, against its bits by another implementation of IEEE 754 (tools/angle_vectors). Each difference is
 // shown; the last line counts them. One line is wrong on purpose, so that a difference is seen to be counted.
+#![tactic(auto)]
+
 fn main() {
     script::run(false);
 }

@@ -1,5 +1,7 @@
 // The entry points for C and Rust: on numbers, and with the day as 320 words that the caller lends. Each that can be refused answers 0 or the number of
 // the refusal, and a refused call leaves all that it was lent as it was. Levels are hundredths of a decibel; BELOW_SCALE stands for 'below scale', and NO_LMAX for no Lmax.
+#![tactic(auto)]
+
 ghost use Rattle.std.specs.Prelude.{◌≡◌, ◌+◌, ◌*◌, ◌<◌, ◌≤◌};
 ghost use Rattle.quantity.specs.Answers.{reading, method_number, highest_reading};
 ghost use Rattle.quantity.specs.Instants.{ticks_of};

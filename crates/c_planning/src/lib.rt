@@ -1,4 +1,6 @@
 // The entry points for C and Rust that planners use: on f64, and the count of mixes. Each answers 0 or the number of a refusal, and a refused call leaves what it was lent as it was.
+#![tactic(auto)]
+
 ghost use Rattle.std.specs.Prelude.{◌≡◌, ◌≤◌, length};
 ghost use Rattle.thrust.specs.Rows.{thrust_reading};
 ghost use Rattle.thrust.specs.Laws.{Alike, IsNumber};

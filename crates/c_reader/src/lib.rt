@@ -1,5 +1,7 @@
 // The reader of day files for C and Rust: a file from any transport, in whatever pieces it comes. The reader is 336 words that the caller lends: any
 // words make a reader, and the words of a reader stand for that very reader.
+#![tactic(auto)]
+
 ghost use Rattle.std.specs.Prelude.{◌≡◌, ◌≤◌, length, take};
 ghost use Rattle.day_words.specs.Words.{word_count, day_words, day_from};
 ghost use Rattle.offering.specs.Offer.{offer_outcome};

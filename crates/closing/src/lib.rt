@@ -1,4 +1,6 @@
 // Closing a day: the two formulas of Ldn, and the level by the one that the numbers of flights and events choose.
+#![tactic(auto)]
+
 ghost use Rattle.std.specs.Prelude.{◌≡◌, ◌+◌, ◌*◌, ◌^◌, ◌<◌, ltb};
 ghost use Rattle.quantity.specs.Answers.{reading, method_number};
 ghost use Rattle.quantity.specs.Numbers.{distance};
@@ -14,7 +16,7 @@ use quantity::{DayAnswer, HighestLevel, Level, Method, Reading, Refusal};
 
 // What closing reports: Ldn and its method, the lowest and the highest Ldn within the tolerances of the meters, the accepted events by day and by night, and the
 // highest Lmax.
-#[derive(Drop)]
+#[derive(Clone, Copy)]
 pub struct Closing {
     pub answer: DayAnswer,
     pub lowest_ldn: Reading,
@@ -25,21 +27,21 @@ pub struct Closing {
 }
 
 // The answer to closing: the report, or why it is refused.
-#[derive(Drop)]
+#[derive(Clone, Copy)]
 pub enum CloseAnswer {
     Closed(Closing),
     Refused(Refusal),
 }
 
 // A closing: its answer, and the highest Lmax of each class. A refused one has none in every class.
-#[derive(Drop)]
+#[derive(Clone, Copy)]
 pub struct Closed {
     pub answer: CloseAnswer,
     pub highest_by_class: [ClassHighest; 16],
 }
 
 // A formula of Ldn: the weights of the energies by day and by night, the divisor, and the offset that is taken off the level.
-#[derive(Drop)]
+#[derive(Clone, Copy)]
 pub struct Formula {
     pub daytime: u32,
     pub night: u32,
@@ -48,7 +50,7 @@ pub struct Formula {
 }
 
 // Ldn of the recorded samples, and the lowest and the highest one within the tolerances of the meters.
-#[derive(Drop)]
+#[derive(Clone, Copy)]
 struct LdnRange {
     recorded: Reading,
     lowest: Reading,

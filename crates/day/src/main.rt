@@ -4,6 +4,8 @@
 // room for only where the input has ended; `io::write_all` writes what it is handed, behind what was written before. Then each turn of the loop
 // below is a step of a run over the input, as `steps` has it: what is held from `from` up to `to` is what the bytes that are not used up begin
 // with, and each line is written once, in its turn.
+#![tactic(auto)]
+
 ghost use Rattle.std.specs.Prelude.{◌≡◌, ◌≤◌, length};
 ghost use Rattle.power.specs.Table.{IsTable};
 ghost use Rattle.day_file.specs.Window.{longest_record};
@@ -14,7 +16,7 @@ use libc::STDOUT_FILENO;
 use steps::{Came, Reader};
 
 // What a turn comes to: the reader, where the bytes begin that the step saw, where those begin and end that are not used up, and what came.
-#[derive(Drop)]
+#[derive(Clone, Copy)]
 struct Turn {
     reader: Reader,
     from: usize,

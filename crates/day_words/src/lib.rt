@@ -1,5 +1,7 @@
 // The day as 320 words of 32 bits, for callers that keep it in memory of their own. Any 320 words stand for a day, and the words of a day stand for that
 // very day.
+#![tactic(auto)]
+
 ghost use Rattle.std.specs.Prelude.{◌≡◌, ◌+◌, ◌%◌, ◌≤◌, length};
 ghost use Rattle.runs.specs.Put.{Put};
 ghost use Rattle.day_words.specs.Words.{

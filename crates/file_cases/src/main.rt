@@ -2,6 +2,8 @@
 // steps in whole, byte by byte and in pieces of seven bytes; what these print is compared with each other. A line shows the label, what the file ends with,
 // and what closing the day that it leaves answers at equal calibration levels; a label that begins with '*' shows every line. The last line counts the
 // files whose ways of reading differ. The cases are made by tools/file_cases.
+#![tactic(auto)]
+
 ghost use Rattle.std.specs.Prelude.{◌≡◌, ◌≤◌, min, length};
 ghost use Rattle.io.specs.Counts.{IsPrefixLen};
 
@@ -17,7 +19,7 @@ const MOST_CASES: u32 = 10000;
 const MOST_STEPS: u32 = 1000000;
 
 // A file on its way through the machine: the reader, the place behind what is used up and behind what was delivered, and the length of the text so far.
-#[derive(Drop)]
+#[derive(Clone, Copy)]
 struct Passage {
     reader: Reader,
     at: usize,
@@ -202,7 +204,7 @@ fn read_file(held: &mut [u8], size: usize) -> usize
 }
 
 // The next case: whether there is one, and 1 where its ways of reading differ.
-#[derive(Drop)]
+#[derive(Clone, Copy)]
 struct Case {
     found: bool,
     different: u32,

@@ -1,4 +1,6 @@
 // What the computations on f64 share.
+#![tactic(auto)]
+
 ghost use Rattle.std.specs.Prelude.{◌≡◌};
 ghost use Rattle.floats.specs.Arithmetic.{within};
 

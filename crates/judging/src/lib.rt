@@ -1,9 +1,11 @@
 // What came of a call, compared with the answers that are right.
+#![tactic(auto)]
+
 ghost use Rattle.std.specs.Prelude.{◌≡◌, ◌+◌, length, drop, if◌then◌else◌};
 ghost use Rattle.judging.specs.Judging.{up_to, is_one_of, is_right, with_call};
 
 // The number of calls, and the number of those whose answer was not right.
-#[derive(Drop)]
+#[derive(Clone, Copy)]
 pub struct Progress {
     pub calls: u32,
     pub different: u32,

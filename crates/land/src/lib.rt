@@ -1,4 +1,6 @@
 // The verdict on a piece of land: its class by its code, the limit of its class, and what a year's level and Lmax exceed.
+#![tactic(auto)]
+
 ghost use Rattle.std.specs.Prelude.{◌≡◌, ◌≤◌, false, pos, ◌-ℤ◌};
 ghost use Rattle.quantity.specs.Answers.{reading, highest_reading};
 ghost use Rattle.quantity.specs.Limits.{highest_day_level};
@@ -30,7 +32,7 @@ use quantity::{HighestLevel, Level, Reading, Refusal};
 const HIGHEST_MAXIMUM: u32 = 9000;
 
 // The classes of land use, I to IV.
-#[derive(Drop)]
+#[derive(Clone, Copy)]
 pub enum LandClass {
     One,
     Two,
@@ -39,28 +41,28 @@ pub enum LandClass {
 }
 
 // The class of a land code, or refusal 15.
-#[derive(Drop)]
+#[derive(Clone, Copy)]
 pub enum LandClassAnswer {
     Known(LandClass),
     Refused(Refusal),
 }
 
 // The limit of a class for a year's level; class IV has none.
-#[derive(Drop)]
+#[derive(Clone, Copy)]
 pub enum Limit {
     At(Level),
     Nothing,
 }
 
 // How far a year's level stays below its limit, in hundredths of a decibel; negative where it is over.
-#[derive(Drop)]
+#[derive(Clone, Copy)]
 pub enum Margin {
     Of(i32),
     Nothing,
 }
 
 // What a verdict names.
-#[derive(Drop)]
+#[derive(Clone, Copy)]
 pub enum Finding {
     Within,
     OverLevel,
@@ -70,14 +72,14 @@ pub enum Finding {
 }
 
 // A verdict: what it names, and the margin.
-#[derive(Drop)]
+#[derive(Clone, Copy)]
 pub struct Assessment {
     pub finding: Finding,
     pub margin: Margin,
 }
 
 // A verdict, or refusal 15, 14 or 4.
-#[derive(Drop)]
+#[derive(Clone, Copy)]
 pub enum VerdictAnswer {
     Given(Assessment),
     Refused(Refusal),

@@ -1,5 +1,7 @@
 // Runs of day records that a program holds as an array of structs and lends: the means over them, and a record rewritten and read again. What is printed
 // is compared with levels of document 01.
+#![tactic(auto)]
+
 use libc::STDOUT_FILENO;
 use mean::{MeanAnswer, ReadAnswer};
 use quantity::{Check, DayAnswer, Method, Reading, SignedLevel};
@@ -17,7 +19,7 @@ fn year_of_367(days: [DayAnswer; 367]) -> MeanAnswer {
 }
 
 // The answer to a rewriting, and the record that is read afterwards.
-#[derive(Drop)]
+#[derive(Clone, Copy)]
 struct ReadBack {
     answer: Check,
     read: ReadAnswer,

@@ -1,4 +1,6 @@
 // The level of a sum over a divisor: the quotient is cut to its ten leading digits, and these are looked up among the mantissas.
+#![tactic(auto)]
+
 ghost use Rattle.std.specs.Prelude.{◌≡◌, ℕ, ◌+◌, ◌*◌, ◌/◌, ◌^◌, ◌≤◌, ◌<◌, leb, length};
 ghost use Rattle.quantity.specs.Answers.{reading};
 ghost use Rattle.quantity.specs.Scale.{depth_factor};
@@ -20,7 +22,7 @@ pub const DEPTH_FACTOR: u32 = 100000;
 const MOST_TURNS: u32 = 10;
 
 // A number cut to its leading digits, and the number of decimal digits that were omitted.
-#[derive(Drop)]
+#[derive(Clone, Copy)]
 pub struct Leading {
     pub digits: u64,
     pub omitted: u32,

@@ -1,5 +1,7 @@
 // Levels of events, days and means against vectors from real arithmetic of more than sixty digits (tools/level_vectors). Each difference is
 // shown; the last line counts them.
+#![tactic(auto)]
+
 fn main() {
     script::run(false);
 }

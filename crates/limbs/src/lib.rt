@@ -1,5 +1,7 @@
 // Natural numbers as runs of 32-bit limbs, least first, over slices of any length: what GMP's mpn layer does, by one proof for every length.
 // A clause `whole` gives the number, a clause `digits` the very limbs.
+#![tactic(auto)]
+
 ghost use Rattle.std.specs.Prelude.{◌≡◌, ◌+◌, ◌*◌, ◌/◌, ◌%◌, ◌^◌, ◌≤◌, ◌<◌, length, get_or, ltb};
 ghost use Rattle.limbs.specs.Value.{base, value, limbs_of};
 
@@ -7,7 +9,7 @@ ghost use Rattle.limbs.specs.Value.{base, value, limbs_of};
 const BASE: u64 = 4294967296;
 
 // A number of two limbs: `low` + 2^32 * `high`.
-#[derive(Drop)]
+#[derive(Clone, Copy)]
 pub struct Wide {
     pub low: u32,
     pub high: u32,
@@ -69,7 +71,7 @@ pub fn add(a: &mut [u32], b: &[u32]) -> u32
 }
 
 // A quotient of one limb, and what is left.
-#[derive(Drop)]
+#[derive(Clone, Copy)]
 struct Division {
     quotient: u32,
     remainder: u32,

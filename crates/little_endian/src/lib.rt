@@ -1,4 +1,6 @@
 // Little-endian numbers in a run of bytes. What lies outside the run is the caller's to see: each function requires that its bytes are there.
+#![tactic(auto)]
+
 ghost use Rattle.std.specs.Prelude.{◌≡◌, ◌+◌, ◌*◌, ◌≤◌, ◌<◌, length};
 ghost use Rattle.little_endian.specs.Bytes.{one_byte, two_bytes, four_bytes, numbers_at};
 

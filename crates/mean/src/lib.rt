@@ -1,4 +1,6 @@
 // The weekly and the yearly mean of days' levels (6-5, 6-6), and the year's records, which the caller lends as a run of day answers.
+#![tactic(auto)]
+
 ghost use Rattle.std.specs.Prelude.{◌≡◌, ◌||◌, ◌+◌, ◌≤◌, ◌<◌, eqb, length};
 ghost use Rattle.quantity.specs.Answers.{reading, check_number};
 ghost use Rattle.power.specs.Table.{IsTable};
@@ -11,21 +13,21 @@ ghost use Rattle.mean.specs.Total.{no_days, sums_with, with_day, with_read, days
 use quantity::{Check, DayAnswer, Reading, Refusal};
 
 // A mean, or why it is refused.
-#[derive(Drop)]
+#[derive(Clone, Copy)]
 pub enum MeanAnswer {
     Mean(Reading),
     Refused(Refusal),
 }
 
 // The record at a place of the year, or why it is refused.
-#[derive(Drop)]
+#[derive(Clone, Copy)]
 pub enum ReadAnswer {
     Record(DayAnswer),
     Refused(Refusal),
 }
 
 // The sum of e over the raised levels of some days by decades, and whether one of their levels was outside.
-#[derive(Drop)]
+#[derive(Clone, Copy)]
 pub struct Total {
     pub sums: [u64; 26],
     pub outside: bool,

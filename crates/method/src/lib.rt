@@ -1,4 +1,6 @@
 // The choice of the method by the numbers of flights and of accepted events: the missing tenth of method one, the shares of method two.
+#![tactic(auto)]
+
 ghost use Rattle.std.specs.Prelude.{◌≡◌, ◌||◌, ◌&&◌, ◌+◌, ◌-◌, ◌*◌, ◌≤◌, ◌<◌, get_or};
 ghost use Rattle.quantity.specs.Numbers.{distance};
 ghost use Rattle.ledger.specs.Book.{most_classes};
@@ -9,28 +11,28 @@ use ledger::{Day, Period};
 use quantity::{Method, Refusal};
 
 // A number of flights in the book, and of accepted events.
-#[derive(Drop)]
+#[derive(Clone, Copy)]
 pub struct Count {
     pub flights: u32,
     pub events: u32,
 }
 
 // By day Nd and Nd', by night Nn and Nn'.
-#[derive(Drop)]
+#[derive(Clone, Copy)]
 pub struct Totals {
     pub daytime: Count,
     pub night: Count,
 }
 
 // The method by which a day is closed, or why there is none.
-#[derive(Drop)]
+#[derive(Clone, Copy)]
 pub enum MethodAnswer {
     By(Method),
     Refused(Refusal),
 }
 
 // The numbers of a day, and the method that they choose.
-#[derive(Drop)]
+#[derive(Clone, Copy)]
 pub struct Choice {
     pub totals: Totals,
     pub answer: MethodAnswer,

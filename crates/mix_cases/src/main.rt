@@ -1,5 +1,7 @@
 // How many mixes pass, for small books against the lists tried one by one and for large ones against a product of polynomials (tools/mix_cases). Each
 // difference is shown; the last line counts them. One line is wrong on purpose, so that a difference is seen to be counted.
+#![tactic(auto)]
+
 fn main() {
     script::run(false);
 }

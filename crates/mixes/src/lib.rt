@@ -1,4 +1,6 @@
 // How many mixes of measured flights would pass: lists of counts, one for each class of a book, that meet the conditions of method two.
+#![tactic(auto)]
+
 ghost use Rattle.std.specs.Prelude.{◌≡◌, Bool, false, ℕ, suc, ◌+◌, ◌-◌, ◌*◌, ◌^◌, ◌≤◌, ◌<◌, length, get_or, set};
 ghost use Rattle.quantity.specs.Answers.{check_number};
 ghost use Rattle.quantity.specs.Rules.{first_of};
@@ -35,7 +37,7 @@ use method::Count;
 use quantity::{Check, Refusal};
 
 // How many mixes would pass, or why they are not counted.
-#[derive(Drop)]
+#[derive(Clone, Copy)]
 pub enum MixAnswer {
     Counted(u64),
     Refused(Refusal),
@@ -45,7 +47,7 @@ pub enum MixAnswer {
 const MOST_CLASSES: usize = 8;
 
 // The counts of a class that fit: those from `first` on, below `end`.
-#[derive(Drop)]
+#[derive(Clone, Copy)]
 struct Range {
     first: u64,
     end: u64,

@@ -1,4 +1,6 @@
 // The tower's movements held against the peaks of events: a largest pairing of two rising lists of times.
+#![tactic(auto)]
+
 ghost use Rattle.std.specs.Prelude.{◌≡◌, false, ◌+◌, ◌<◌, ltb, length, replicate};
 ghost use Rattle.quantity.specs.Instants.{ticks_of};
 ghost use Rattle.quantity.specs.Numbers.{distance};
@@ -8,7 +10,7 @@ ghost use Rattle.pairing.specs.Answers.{most_entries, falls, unfit, pairing_read
 use quantity::Refusal;
 
 // The number of pairs given, or refusal 19.
-#[derive(Drop)]
+#[derive(Clone, Copy)]
 pub enum PairingAnswer {
     Paired(u16),
     Refused(Refusal),

@@ -1,5 +1,7 @@
 // All short lists of movements and peaks against every largest pairing of them, found by trying all pairings (tools/pairing_cases). Each difference is
 // shown; the last line counts them. One line is wrong on purpose, so that a difference is seen to be counted.
+#![tactic(auto)]
+
 fn main() {
     script::run(false);
 }

@@ -1,4 +1,6 @@
 // Powers of ten at levels: e(c), which is 10^(c / 1000) to ten digits, is a mantissa of this table times a power of ten.
+#![tactic(auto)]
+
 ghost use Rattle.std.specs.Prelude.{◌≡◌, ◌+◌, ◌*◌, ◌≤◌, ◌<◌, length};
 ghost use Rattle.power.specs.Power.{m, G};
 ghost use Rattle.power.specs.Table.{IsRow, HoldsTo, IsTable};

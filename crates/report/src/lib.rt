@@ -1,4 +1,6 @@
 // The lines of the day program, each made into a lent buffer.
+#![tactic(auto)]
+
 ghost use Rattle.std.specs.Prelude.{[], ◌∷◌, ◌+◌, ◌≤◌};
 ghost use Rattle.quantity.specs.Answers.{reading, highest_reading, refusal_number};
 ghost use Rattle.offering.specs.Offer.{offer_outcome};

@@ -1,4 +1,6 @@
 // Runs that are lent, bytes of a line or words of a day: numbers are put at a place, one run behind the other, and what lies before and behind stays.
+#![tactic(auto)]
+
 ghost use Rattle.std.specs.Prelude.{◌≡◌, ◌+◌, ◌≤◌, length};
 ghost use Rattle.runs.specs.Put.{Put};
 

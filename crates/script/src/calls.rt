@@ -38,7 +38,7 @@ const FIRST_DAYTIME_TICK: u32 = 216000;
 const LAST_DAYTIME_TICK: u32 = 791999;
 
 // What a day is opened with beside its book.
-#[derive(Drop)]
+#[derive(Clone, Copy)]
 struct Opening {
     rate: u32,
     first: u32,
@@ -149,7 +149,7 @@ fn offer(day: &mut [u32; 320], numbers: &[u32], words: Words) -> Text {
 }
 
 // What a closing answers, and what it leaves in what it was lent.
-#[derive(Drop)]
+#[derive(Clone, Copy)]
 struct Closed {
     answer: u8,
     day_record: u64,

@@ -8,6 +8,8 @@
 // terminal, after, next, offer, close, spread, highest, week, year, rewrite, verdict, land, pair, mixes, interpolate, degrees; and hour by its first two. The words of
 // interpolate and degrees are f64 numbers, each by its bits in 16 hexadecimal digits. An hour is answered by its energy in two halves of 64 bits, the lower
 // one first. The numbers lent to mixes, and its count, are 7 before the call; ' beyond' at the end of its answer says that one of the numbers that stay was changed.
+#![tactic(auto)]
+
 ghost use Rattle.std.specs.Prelude.{◌≡◌, ◌≤◌, length};
 
 mod angles;
@@ -28,7 +30,7 @@ const LONGEST_LINE: usize = 40960;
 const MOST_LINES: u32 = 1000000;
 
 // A line in the buffer: from a place up to another, and where the bytes that are held end.
-#[derive(Drop)]
+#[derive(Clone, Copy)]
 struct Line {
     from: usize,
     to: usize,

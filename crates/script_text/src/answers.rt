@@ -2,7 +2,7 @@
 use crate::words;
 
 // Some text: the bytes up to the count.
-#[derive(Drop)]
+#[derive(Clone, Copy)]
 pub struct Text {
     pub bytes: [u8; 128],
     pub count: usize,

@@ -4,7 +4,7 @@ use crate::words;
 use crate::words::Words;
 
 // How far a call is read: its values so far, and the word that is read, if any.
-#[derive(Drop)]
+#[derive(Clone, Copy)]
 struct Scan {
     count: usize,
     slash: usize,

@@ -9,7 +9,7 @@ pub const NONE: u32 = 2147483648;
 pub const NO_LMAX: u32 = 4294967295;
 
 // The numbers of a call: how many there are, and how many stand before the '/'.
-#[derive(Drop)]
+#[derive(Clone, Copy)]
 pub struct Words {
     pub count: usize,
     pub slash: usize,
@@ -17,7 +17,7 @@ pub struct Words {
 
 // How far a call is read: its numbers so far, and the word that is read, if any: its digits, whether it has some, whether '-' stands before them, and how
 // often the number stands there: in 8000*3 the digits behind '*' are those of the number of times.
-#[derive(Drop)]
+#[derive(Clone, Copy)]
 struct Scan {
     count: usize,
     slash: usize,

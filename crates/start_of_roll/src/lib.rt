@@ -1,11 +1,13 @@
 // The correction for points beside and behind the start of roll (formulas B.14 and B.15), in f64.
+#![tactic(auto)]
+
 ghost use Rattle.std.specs.Prelude.{◌≡◌};
 ghost use Rattle.start_of_roll.specs.Correction.{beside_at, behind_at, correction_at_angle, answer_reading, IsFinite};
 
 use quantity::Refusal;
 
 // Where a point lies from the start of roll, with its correction in dB. In front there is none.
-#[derive(Drop)]
+#[derive(Clone, Copy)]
 pub enum Correction {
     InFront,
     Beside(f64),
@@ -13,7 +15,7 @@ pub enum Correction {
 }
 
 // The correction, or refusal 22.
-#[derive(Drop)]
+#[derive(Clone, Copy)]
 pub enum CorrectionAnswer {
     Given(Correction),
     Refused(Refusal),

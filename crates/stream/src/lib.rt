@@ -1,4 +1,6 @@
 // Reading standard input through a buffer of fixed size: what is not used up stays, in its order, and what is free is filled again.
+#![tactic(auto)]
+
 ghost use Rattle.std.specs.Prelude.{◌≡◌, false, ◌+◌, ◌-◌, ◌≤◌, min, ltb, length, take, drop};
 ghost use Rattle.stream.specs.Part.{part};
 
@@ -42,7 +44,7 @@ pub fn refill(held: &mut [u8], from: usize, to: usize) -> usize
 }
 
 // The bytes of a buffer that are not used up yet, from a place up to another, and whether the input ends with them.
-#[derive(Drop)]
+#[derive(Clone, Copy)]
 pub struct Rest {
     pub at: usize,
     pub end: usize,

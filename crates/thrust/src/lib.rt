@@ -1,4 +1,6 @@
 // The level at a thrust between two rows of measured ones (formula B.3), in f64.
+#![tactic(auto)]
+
 ghost use Rattle.std.specs.Prelude.{◌≡◌, ◌&&◌, ◌≤◌, ◌<◌};
 ghost use Rattle.std.specs.Float.Ieee.{lt};
 ghost use Rattle.thrust.specs.Rows.{in_range, fit, lower_place, level_between, level_at_thrust, thrust_reading};
@@ -7,14 +9,14 @@ ghost use Rattle.thrust.specs.Laws.{ExactAtRows, IsNumber};
 use quantity::Refusal;
 
 // A thrust in kN and the level in dB that was measured at it.
-#[derive(Drop)]
+#[derive(Clone, Copy)]
 pub struct Row {
     pub thrust: f64,
     pub level: f64,
 }
 
 // The level in dB, or refusal 20 or 21.
-#[derive(Drop)]
+#[derive(Clone, Copy)]
 pub enum ThrustAnswer {
     At(f64),
     Refused(Refusal),
