@@ -32,7 +32,7 @@ fn is_one_of(came: &[u8], answers: &[u8]) -> bool
     let mut from = 0;
     loop {
         let to = place_of(answers, from, b'|');
-        if check::same(came, &answers[from..to]) {
+        if came == &answers[from..to] {
             return true;
         }
         if to == answers.len() {
