@@ -12,6 +12,7 @@ pub struct Progress {
 }
 
 // The first place of a byte from another place on, or where none is left.
+#[tactic(auto, using(crate::proofs::Judging::found, crate::proofs::Judging::ended))]
 pub fn place_of(bytes: &[u8], from: usize, byte: u8) -> usize
     ensures { result ≡ from + length (up_to byte (drop from bytes.now)) }
 {
