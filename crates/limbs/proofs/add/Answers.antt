@@ -24,9 +24,8 @@ loop-i-preserved c =    let l = c.loop-i in
     (t.ensures ∙ ap (λ (n : ℕ). n + get_or b l.i 0 + l.carry) (carried_at l.invariant))
     (rw (value_take a₀ l.i, value_take b l.i, add-mul) (omega arith))
 
--- of the whole returns: clauses ['whole', 'digits']
 pub returns-clause-digits : goal.returns-clause-digits
 returns-clause-digits c =    let a₀ = c.args.a.now in
     let b = c.args.b.now in
     let same : length a₀ ≡ length b = c.requires in
-    rw (take-length a₀, take_all (length a₀) b (omega arith)) at (carried_all c.loop-i.invariant (omega arith))
+    (rw (take-length a₀, take_all (length a₀) b (omega arith)) at (carried_all c.loop-i.invariant (omega arith))).1

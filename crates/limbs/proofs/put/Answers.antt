@@ -9,9 +9,9 @@ use Rattle.limbs.proofs.put.Goals as goal
 pub returns-clause-whole : goal.returns-clause-whole
 returns-clause-whole c =    let p = c.load.ensures in
     let e = value_pair c.split-t.result.low c.split-t.result.high ∙ c.split-t.ensures in
-    p.0 ∙ e
+    p.whole ∙ e
 
 pub returns-clause-digits : goal.returns-clause-digits
 returns-clause-digits c =    let p = c.load.ensures in
     let e = value_pair c.split-t.result.low c.split-t.result.high ∙ c.split-t.ensures in
-    p.1.0 ∙ ap (limbs_of (length c.args.a.now)) e
+    p.digits ∙ ap (limbs_of (length c.args.a.now)) e

@@ -23,7 +23,6 @@ loop-i-preserved c =    let l = c.loop-i in
     (t.ensures ∙ ap (λ (n : ℕ). n * k + l.carry) (carried_at l.invariant))
     (rw (value_take a₀ l.i, add-mul, mul_right_comm (get_or a₀ l.i 0) k (base ^ l.i)) refl)
 
--- of the whole returns: clauses ['whole', 'digits']
 pub returns-clause-digits : goal.returns-clause-digits
 returns-clause-digits c =    let a₀ = c.args.a.now in
-    rw (take-length a₀) at (carried_all c.loop-i.invariant (omega arith))
+    (rw (take-length a₀) at (carried_all c.loop-i.invariant (omega arith))).1
