@@ -1,5 +1,4 @@
 -- The three constant rows hold the mantissas: the rule is a test that is computed at each entry, in runs, since a declaration may take 50,000,000 steps.
-use Prim.Native.Nat.{ℕ}
 use lib.Dec.{lit≤}
 use lib.ListN.{take, drop}
 use Rattle.power.specs.declared.rows.TheConstants.{FROM_1, FROM_2, FROM_4}

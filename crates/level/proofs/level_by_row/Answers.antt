@@ -1,7 +1,5 @@
 -- `level::level_by_row` meets its contract: ten leading digits show the level of the whole number, and the offset is taken off.
 use mathlib.Core.Path.{ap, sym, ◌∙◌}
-use native.Mathlib.Omega.{arith}
-use borrow.Author.Rules.{rules}
 use lib.Dec.{lit<}
 use Rattle.level.specs.Level.{reading_at}
 use Rattle.level.proofs.Answer.{offset_taken, below_taken}
@@ -12,6 +10,6 @@ pub returns-then-digits-lt-UNIT : goal.returns-then-digits-lt-UNIT
 returns-then-digits-lt-UNIT c = λ n l. ap reading_at (below_taken _ 1 n (lit< tt) (sym (digits_below c.if-digits-lt-UNIT.true (c.ten_digits-short.ensures.same n l))))
 
 pub returns : goal.returns
-returns c =    λ n l.
+returns c = λ n l.
     c.reading_at.ensures
     ∙ ap reading_at (offset_taken _ 1 n (lit< tt) _ (sym (digits_level c.place_in_row.ensures (c.ten_digits-short.ensures.same n l))))
