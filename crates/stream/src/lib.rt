@@ -64,6 +64,16 @@ fn fill_from<R: Read>(input: &mut R, held: &mut [u8], from: usize) -> io::Result
     Ok(at)
 }
 
+// Fills a buffer from the input, until it is full or the input has ended, and gives the number of bytes that were read.
+pub fn fill<R: Read>(input: &mut R, held: &mut [u8]) -> io::Result<usize>
+    ensures size { IfOk result (λ n. n ≤ length held.new) }
+    ensures whole { length held.new ≡ length held.old }
+    ensures bytes { IfOk result (λ n. Consumes (R.remaining input.old) (R.remaining input.new) (take n held.new)) }
+    ensures end { IfOk result (λ n. n < length held.new → IsAtEnd (R.remaining input.new)) }
+{
+    fill_from(input, held, 0)
+}
+
 // Moves the bytes from a place up to another to the beginning, fills what is free behind them from the input, and gives the number of bytes that
 // are held then. It is below the buffer's length only where the input has ended. After a failed read these bytes stand at the beginning, and
 // behind them whatever the reads have left there.
