@@ -86,8 +86,8 @@ pub extern "C" fn moatburdock_correction_at_angle(
     position: &mut u8,
     correction: &mut f64,
 ) -> u8
-    ensures correction_after { record { answer = result; lent = record { position = position.exit.now; correction = correction.new } }
-        ≡ correction_leaves (record { position = position.entry.now; correction = correction.old }) angle }
+    ensures correction_after { record { answer = result; lent = record { position = position.new; correction = correction.new } }
+        ≡ correction_leaves (record { position = position.old; correction = correction.old }) angle }
     ensures finite { IsFinite (correction_at_angle angle) }
 {
     let answer = start_of_roll::correction_at_angle(angle);
@@ -123,8 +123,8 @@ pub extern "C" fn moatburdock_count_mixes(
     count: &mut u64,
 ) -> u8
     ensures { MixesLeave daytime.now night.now measured
-        (record { count = count.entry.now; table = table.old })
-        (record { answer = result; lent = record { count = count.exit.now; table = table.new } }) }
+        (record { count = count.old; table = table.old })
+        (record { answer = result; lent = record { count = count.new; table = table.new } }) }
 {
     let answer = mixes::count_mixes(daytime, night, measured, table);
     match answer {
