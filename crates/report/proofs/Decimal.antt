@@ -1,8 +1,10 @@
--- The text of a number with a sign by its size.
-use Rattle.std.proofs.Common.{◌≡◌, true, false, ◌++◌, refl, subst, T, ℤ, pos, negsuc, arith}
-use borrow.Author.Tests.{ltb-true}
-use lib.IntN.{nat_abs}
+-- The text of a number with a sign, by its size.
+use Rattle.std.proofs.Common.{◌≡◌, true, false, ◌++◌, refl, arith}
+use mathlib.Core.Path.{subst}
+use lib.Dec.{T}
+use lib.IntN.{ℤ, pos, negsuc, nat_abs}
 use lib.Signed.{lt_z}
+use borrow.Author.Tests.{ltb-true}
 use Rattle.decimal.specs.Digits.{decimal}
 use Rattle.report.specs.Text.{dash, signed_text}
 
