@@ -105,6 +105,7 @@ fn day_of(words: &[u32]) -> Day
 }
 
 // The reader that some words stand for.
+#[tactic(auto, unfolding(crate::specs::Words::reader_from))]
 fn decode(words: &[u32; 336]) -> Reader
     ensures { result ≡ reader_from words.now }
 {
