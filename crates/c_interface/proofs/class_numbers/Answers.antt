@@ -1,10 +1,8 @@
 -- `c_interface::class_numbers` meets its contract: the numbers of the classes passed so far are written.
 use mathlib.Core.Path.{sym, ◌∙◌}
 use mathlib.Core.Option.{none}
-use Prim.Native.Nat.{◌-◌}
-use Rattle.ledger.specs.Day.{levels_by_class}
-use Rattle.runs.proofs.Filling.{Filling, filled_none, filled_more, filled_all}
-use Rattle.c_interface.specs.Numbers.{highest_number, class_numbers}
+use Rattle.runs.proofs.Filling.{filled_more}
+use Rattle.c_interface.specs.Numbers.{highest_number}
 use Rattle.c_interface.proofs.Classes.{length_numbers, number_at}
 use borrow.Author.Rules.{rules}
 use Rattle.c_interface.proofs.class_numbers.Goals as goal

@@ -1,12 +1,11 @@
 -- `c_interface::mean_of` meets its contract: the total is that of the first `i` records, so at the end that of the records counted.
 use borrow.Author.Rules.{rules}
-use Prim.Native.Nat.{◌≤◌, ◌-◌}
 use mathlib.Core.Path.{◌≡◌, ◌∙◌}
 use native.Mathlib.Omega.{arith}
 use lib.ListN.{length}
 use Rattle.mean.specs.Mean.{is_count_wrong}
 use Rattle.mean.proofs.Totals.{counted_few, counted_within}
-use Rattle.c_interface.proofs.Records.{total_to, total_none, total_next, records_readable, mean_total}
+use Rattle.c_interface.proofs.Records.{total_none, total_next, records_readable, mean_total}
 use Rattle.c_interface.proofs.mean_of.Goals as goal
 
 pub loop-i-init : goal.loop-i-init

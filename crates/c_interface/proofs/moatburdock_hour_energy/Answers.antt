@@ -1,5 +1,4 @@
 -- `c_interface::moatburdock_hour_energy` meets its contract: two limbs make each half.
-use borrow.Author.Rules.{rules}
 use Rattle.c_interface.proofs.Written.{energy_by_limbs}
 use Rattle.c_interface.proofs.moatburdock_hour_energy.Goals as goal
 

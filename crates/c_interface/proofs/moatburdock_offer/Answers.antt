@@ -1,10 +1,7 @@
 -- `c_interface::moatburdock_offer` meets its contract: by the case of the answer; a refused offer writes nothing.
-use mathlib.Core.Path.{◌≡◌}
-use Rattle.quantity.specs.Instants.{instant_of}
 use Rattle.quantity.proofs.Instants.{instant_handed}
 use mir.Syntax.{w32}
 use mir.Facts.{to_z-of_z}
-use borrow.Author.Rules.{rules}
 use Rattle.c_interface.proofs.moatburdock_offer.Goals as goal
 
 pub returns-in-Refused : goal.returns-in-Refused

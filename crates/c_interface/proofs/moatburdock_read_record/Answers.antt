@@ -1,6 +1,5 @@
 -- `c_interface::moatburdock_read_record` meets its contract: by the test of the place.
 use borrow.Author.Tests.{le-leb, lt-leb}
-use borrow.Author.Rules.{rules}
 use Rattle.quantity.specs.Rules.{first_of}
 use Rattle.c_interface.proofs.moatburdock_read_record.Goals as goal
 

@@ -1,7 +1,6 @@
 -- `c_interface::moatburdock_rewrite_record` meets its contract: by the tests of the place and of the new level.
 use mathlib.Core.Path.{sym, ap, ◌∙◌}
 use borrow.Author.Tests.{le-leb, lt-leb}
-use borrow.Author.Rules.{rules}
 use Rattle.quantity.specs.Rules.{first_of}
 use Rattle.quantity.specs.Scale.{is_reading_outside}
 use Rattle.c_interface.proofs.moatburdock_rewrite_record.Goals as goal
