@@ -237,7 +237,7 @@ pub fn moatburdock_read_step(
     ensures { record {
       answer = result;
       lent = record {
-        reader = reader.exit.now;
+        reader = reader.new;
         used = used.new;
         numbers = numbers.new;
         line = line.new;
@@ -245,7 +245,7 @@ pub fn moatburdock_read_step(
       };
     }
         ≡ step_leaves
-        reader.entry.now line.old window.now ended }
+        reader.old line.old window.now ended }
 {
     let stepped = steps::step(decode(reader), window, ended);
     let next = stepped.reader;

@@ -38,9 +38,9 @@ pub extern "C" fn moatburdock_offer(
     exposure: &mut i32,
     lmax: &mut u32,
 ) -> u8
-    ensures { record { answer = result; lent = record { day = day.exit.now; exposure = exposure.new; lmax = lmax.new } }
+    ensures { record { answer = result; lent = record { day = day.new; exposure = exposure.new; lmax = lmax.new } }
         ≡ offer_leaves
-        (record { day = day.entry.now; exposure = exposure.old; lmax = lmax.old })
+        (record { day = day.old; exposure = exposure.old; lmax = lmax.old })
         (offering_as start class wind wet background tolerance samples.now) }
 {
     c_interface::moatburdock_offer(
@@ -153,9 +153,9 @@ pub extern "C" fn moatburdock_verdict(
     finding: &mut u8,
     margin: &mut i32,
 ) -> u8
-    ensures { record { answer = result; lent = record { finding = finding.exit.now; margin = margin.new } }
+    ensures { record { answer = result; lent = record { finding = finding.new; margin = margin.new } }
         ≡ verdict_leaves
-        (record { finding = finding.entry.now; margin = margin.old })
+        (record { finding = finding.old; margin = margin.old })
         class yearly sensitive lmax }
 {
     c_interface::moatburdock_verdict(class, yearly, sensitive, lmax, finding, margin)
@@ -180,15 +180,15 @@ pub extern "C" fn moatburdock_pair_movements(
     peak_marks: &mut [u16],
     count: &mut u16,
 ) -> u8
-    ensures { PairLeaves (instants movements.entry.now) (instants peaks.now) tolerance
+    ensures { PairLeaves (instants movements.now) (instants peaks.now) tolerance
         (record {
-          count = count.entry.now;
+          count = count.old;
           marks = record { movements = movement_marks.old; peaks = peak_marks.old };
         })
         (record {
           answer = result;
           lent = record {
-            count = count.exit.now;
+            count = count.new;
             marks = record { movements = movement_marks.new; peaks = peak_marks.new };
           };
         }) }

@@ -27,7 +27,7 @@ pub extern "C" fn moatburdock_read_step(
     ensures { record {
       answer = result;
       lent = record {
-        reader = reader.exit.now;
+        reader = reader.new;
         used = used.new;
         numbers = numbers.new;
         line = line.new;
@@ -35,7 +35,7 @@ pub extern "C" fn moatburdock_read_step(
       };
     }
         ≡ step_leaves
-        reader.entry.now line.old window.now ended }
+        reader.old line.old window.now ended }
 {
     c_reader::moatburdock_read_step(reader, window, ended, used, numbers, line, size)
 }
