@@ -102,7 +102,9 @@ module _ {W : ℕ} (whole : (n : ℕ) → n < W → value (limbs_of 4 n) ≡ n) 
         let small = hour_room h hs k (has k) fits in
         test (same_as h.daytime p)
         (λ t. test (eqb k hour)
-        (λ e. rw (e, ← eqb-true k hour e, t) (raised_hour cells k S (hour_inside h hs peaks) small ∙ omega (arith, has k)))
+        (λ e.
+        let at_peak : energy_at cells k ≡ period_energy p (of_hour rate hour hs) = rw (eqb-true k hour e) (has hour) in
+        rw (e, ← eqb-true k hour e, t) (raised_hour cells k S (hour_inside h hs peaks) small ∙ omega (arith, at_peak)))
         (λ e. rw (t, e) (other_hour cells k S (hour_inside h hs peaks) small hour (λ same. eqb-false k hour e (sym same)) ∙ has hour)))
         (λ f. test (eqb k hour) (λ e. rw (e, f) (omega (arith, has hour))) (λ e. rw (f, e) (has hour)))
 

@@ -26,7 +26,7 @@ keeps {t} a call = subst (λ (day : Day). Agrees (tallied t call) (day_after day
 
 keep : {t : Tally} {day : Day} → Agrees t day → (calls : List Call) → Agrees (tally_of t calls) (day_after_calls day calls)
 keep a [] = a
-keep a (c ∷ cs) = keep (keeps a c) cs
+keep {t = t} {day = day} a (c ∷ cs) = keep {t = tallied t c} {day = day_after day c} (keeps a c) cs
 
 pub agree : Always Agrees
 agree o h calls = keep (fresh o h) calls

@@ -25,8 +25,7 @@ use Rattle.event.proofs.Whole.{in_window, peak_inside}
 use Rattle.decades.specs.Decades.{energies}
 use Rattle.decades.proofs.Counting.{energies_drop}
 use Rattle.exposure.specs.Exposure.{energy_of}
-use Rattle.ledger.specs.declared.Day.{Day}
-use Rattle.admission.specs.Checks.{Offering, day_checks}
+use Rattle.admission.specs.Checks.{day_checks}
 use Rattle.offering.specs.Offer.{offered_by}
 use Rattle.accuracy.specs.QuietFields.{level_in, lowest_exposure, NoLower, FaintestLaw}
 use Rattle.accuracy.proofs.Lists.{drop_energy}

@@ -63,7 +63,9 @@ by_class_lem (h ∷ hs) l p class =
     let so_far : ByClass hs (class_levels hs) = by_class_lem hs l p.1 in
     let there : h.class < length (class_levels hs) = omega (arith, l, p.0, sixteen hs) in
     test (eqb h.class class)
-    (λ t. rw (level_more h hs, t, ← eqb-true h.class class t, get_or-set_same (class_levels hs) h.class _ none there, so_far h.class))
+    (λ t.
+    let e = eqb-true h.class class t in
+    rw (level_more h hs, t, e, get_or-set_same (class_levels hs) class _ none (rw e at there), so_far class))
     (λ f. rw (level_more h hs, f, get_or-set_other (class_levels hs) h.class class _ none (λ e. eqb-false h.class class f (sym e))) (so_far class))
 
 -- a class beyond the first n has none

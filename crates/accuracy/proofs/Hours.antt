@@ -27,7 +27,7 @@ use Rattle.admission.specs.Checks.{Offering}
 use Rattle.method.specs.Method.{counts_of}
 use Rattle.closing.specs.Close.{close_rules, closing_by}
 use Rattle.accuracy.specs.Tally.{Call, offering, closing, Held, Tally, started, tally_of, tallied, joined, period_in, same_as, tally_checks, held_samples}
-use Rattle.accuracy.specs.Terminal.{day_after_calls, CalledDay, held_in, rate_in}
+use Rattle.accuracy.specs.Terminal.{day_after, day_after_calls, CalledDay, held_in, rate_in}
 use Rattle.accuracy.specs.Laws.{Always, period_energy}
 use Rattle.accuracy.specs.NextDay.{later, held_in_row}
 use Rattle.accuracy.specs.Hours.{of_hour, held_energy, HasPeak, PeakLaw, PeaksInDay, HourGives, HourLaw, sum_of_hours, AddUp, HoursAddUp, HourAccuracy, sum_after, sum_after_calls, LdnLaw}
@@ -150,8 +150,8 @@ module _ {t : Tally} (b : Bounded t) (p : Bool) {sum : ℕ} (same : sum ≡ peri
 sums_kept : {t : Tally} {day : Day} → Agrees t day → (p : Bool) (calls : List Call) {sum : ℕ} → sum ≡ period_energy p t.stretches
     → sum_after_calls p day calls sum ≡ period_energy p (tally_of t calls).stretches
 sums_kept a p [] same = same
-sums_kept {t} a p (c ∷ cs) {sum} same =
-    sums_kept (keeps a c) p cs
+sums_kept {t = t} {day = day} a p (c ∷ cs) {sum} same =
+    sums_kept {t = tallied t c} {day = day_after day c} (keeps a c) p cs
     (subst (λ (day : Day). sum_after p day c sum ≡ period_energy p (tallied t c).stretches) (sym a.same) (sum_called a.bounded p same c))
 
 -- so closing forms Ldn from the sums of before

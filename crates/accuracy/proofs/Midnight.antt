@@ -165,7 +165,7 @@ kept_call {now} {then} k o =
 kept_calls : {now then : Day} → Kept now then → (calls : List Call) → NoneNew now calls
     → Kept (day_after_calls now calls) (day_after_calls_by offered_before then calls)
 kept_calls k [] none = k
-kept_calls k (offering o ∷ cs) none = kept_calls (kept_call k o none.0) cs none.1
+kept_calls {now = now} {then = then} k (offering o ∷ cs) none = kept_calls {now = (offered now o).day} {then = (offered_before then o).day} (kept_call k o none.0) cs none.1
 kept_calls k (closing before after ∷ cs) none = kept_calls k cs none
 
 -- the fresh days: neither end is after midnight

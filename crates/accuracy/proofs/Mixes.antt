@@ -14,7 +14,7 @@ use Rattle.ledger.specs.Book.{most_classes, sum_of}
 use Rattle.ledger.proofs.Books.{both_at, both_length, both_sum}
 use Rattle.method.specs.Method.{Counts, all_of, share_holds, shares_hold, method_two_holds}
 use Rattle.method.specs.declared.Count.{Count}
-use Rattle.method.proofs.Each.{each_known, each_shown}
+use Rattle.method.proofs.Each.{shares_known, shares_shown}
 use Rattle.method.proofs.Shares.{ShareHolds, share_known, share_shown}
 use Rattle.mixes.specs.Mix.{mixes_of}
 use Rattle.mixes.specs.Laws.{IsMix}
@@ -43,7 +43,7 @@ module _ {t : Tally} (b : Bounded t) where
   mix_at k h = both_at (t.count true) (t.count false) k (omega (arith, b.counted true)) (omega (arith, b.counted false))
 
   share : (k : ℕ) → k < length (t.book true) → shares_hold all (tally_class t) most_classes ≡ true → ShareHolds all (tally_class t k)
-  share k h s = share_known all (tally_class t k) (each_known (share_holds all) (tally_class t) most_classes s k (omega (arith, b.most)))
+  share k h s = share_known all (tally_class t k) (shares_known all (tally_class t) most_classes s k (omega (arith, b.most)))
 
   mix_shown : shares_hold all (tally_class t) most_classes ≡ true → IsMix (t.book true) (t.book false) (sum_of (mix_of t)) (mix_of t)
   mix_shown s =
@@ -67,7 +67,7 @@ module _ {t : Tally} (b : Bounded t) where
       (no_flights all)
 
   mix_known : IsMix (t.book true) (t.book false) (sum_of (mix_of t)) (mix_of t) → shares_hold all (tally_class t) most_classes ≡ true
-  mix_known i = each_shown (share_holds all) (tally_class t) most_classes (λ k _. test (ltb k (length (t.book true))) (inside k) (λ u. beyond k (ltb-false k _ u)))
+  mix_known i = shares_shown all (tally_class t) most_classes (λ k _. test (ltb k (length (t.book true))) (inside k) (λ u. beyond k (ltb-false k _ u)))
     where
       inside : (k : ℕ) → ltb k (length (t.book true)) ≡ true → share_holds all (tally_class t k) ≡ true
       inside k u =

@@ -64,7 +64,7 @@ since_call {end} {t} s (offering o) = by_number (first_of (tally_checks t o)) re
 
 since_calls : {end : ℕ} {t : Tally} → Since end t → (calls : List Call) → Since end (tally_of t calls)
 since_calls s [] = s
-since_calls s (c ∷ cs) = since_calls (since_call s c) cs
+since_calls {end = end} {t = t} s (c ∷ cs) = since_calls {end = end} {t = tallied t c} (since_call s c) cs
 
 -- what is known of the stretches of a day
 module _ (d : CalledDay) where

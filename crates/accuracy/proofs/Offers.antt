@@ -3,12 +3,11 @@ use mathlib.Core.Path.{◌≡◌, refl, sym, ap, ◌∙◌}
 use mathlib.Core.Bool.{Bool, true, false, cond}
 use mathlib.Core.List.{List, ◌∷◌}
 use Prim.Native.Nat.{ℕ, zero, suc, ◌+◌, ◌-◌, ◌≤◌, ◌<◌}
-use native.Mathlib.Nat.{le_refl, le_trans, mul-le-mul_left}
+use native.Mathlib.Nat.{le_refl}
 use native.Mathlib.Omega.{arith}
 use borrow.Author.Tests.{leb-false, eqb-false}
 use lib.Dec.{leb, eqb}
 use lib.ListN.{length, get_or, set, length-set}
-use Rattle.quantity.specs.Limits.{highest_sample}
 use Rattle.quantity.specs.Rules.{Rule, first_of, outcome, follow}
 use Rattle.quantity.specs.declared.Bound.{Bound}
 use Rattle.quantity.specs.declared.Bound.TheVariants.{Lowest, Highest}
@@ -18,7 +17,6 @@ use Rattle.clock.specs.Clock.{hour_of}
 use Rattle.clock.specs.declared.Settings.{Settings}
 use Rattle.event.specs.Window.{highest, peak_of}
 use Rattle.event.specs.Stretch.{stretch_first, stretch_end, stretch_of}
-use Rattle.decades.specs.Decades.{energies}
 use Rattle.event.specs.Event.{event_of}
 use Rattle.exposure.specs.Exposure.{EnergyRange, range_of, energy_range_by}
 use Rattle.exposure.proofs.Accuracy.{exposure_accurate}

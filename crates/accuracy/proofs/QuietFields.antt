@@ -113,14 +113,14 @@ kept_outside (none ∷ days) = kept_outside days
 
 kept_mean : (fewest most : ℕ) → 0 < fewest → (days : List (Option ℕ)) → KeptOutcome (mean_before fewest most days) (mean_of fewest most (map same_today days))
 unfolding mean_of
-kept_mean fewest most positive days = rw (length-map days same_today, kept_outside days, kept_sum days) (go (first_of rules) refl)
+kept_mean fewest most positive days = rw (length-map days same_today, kept_outside days, kept_sum days) (go (first_of checks) refl)
   where
-    rules : List Rule
-    rules = mean_rules (is_count_wrong fewest most (length days)) (any_too_high days)
+    checks : List Rule
+    checks = mean_rules (is_count_wrong fewest most (length days)) (any_too_high days)
 
-    go : (n : ℕ) → first_of rules ≡ n → KeptOutcome (outcome n (level_before 0 (length days) (sum_before days))) (outcome n (level_of 0 (length days) (sum_before days)))
+    go : (n : ℕ) → first_of checks ≡ n → KeptOutcome (outcome n (level_before 0 (length days) (sum_before days))) (outcome n (level_of 0 (length days) (sum_before days)))
     go zero h =
-        let right = neither (ltb (length days) fewest) (ltb most (length days)) (pass rules (search rules) h).0 in
+        let right = neither (ltb (length days) fewest) (ltb most (length days)) (pass checks (search rules) h).0 in
         kept_level 0 (length days) (sum_before days) (omega (arith, ltb-false (length days) fewest right.0))
     go (suc n) h = refl
 

@@ -5,7 +5,7 @@ use mathlib.Core.List.{List, [], ◌∷◌, map}
 use Prim.Native.Nat.{ℕ, ◌+◌, ◌≤◌, ◌<◌, zero-le}
 use native.Mathlib.Nat.{add-le-add}
 use native.Mathlib.Omega.{arith}
-use lib.ListN.{length, replicate, length-map}
+use lib.ListN.{replicate, length-map}
 use Rattle.quantity.specs.Limits.{highest_sample}
 use Rattle.quantity.specs.Lists.{Each}
 use Rattle.quantity.specs.Tolerance.{bound_of, at_bound, Within}

@@ -2,10 +2,9 @@
 use mathlib.Core.Path.{◌≡◌, refl, sym, ap, ◌∙◌, subst}
 use mathlib.Core.Bool.{Bool, true, false}
 use mathlib.Core.List.{List, map}
-use Prim.Native.Nat.{ℕ, zero, suc, ◌+◌, ◌*◌, ◌≤◌, ◌<◌}
+use Prim.Native.Nat.{ℕ, ◌≤◌, ◌<◌}
 use native.Mathlib.Nat.{add-le-add, mul-le-mul_left}
-use Rattle.quantity.specs.Answers.{Reading}
-use Rattle.quantity.specs.Rules.{first_of, given, outcome}
+use Rattle.quantity.specs.Rules.{first_of, given}
 use Rattle.quantity.specs.declared.Bound.{Bound}
 use Rattle.quantity.specs.declared.Bound.TheVariants.{Lowest, Highest}
 use Rattle.quantity.proofs.Outcomes.{given_value}
@@ -18,7 +17,6 @@ use Rattle.closing.specs.Formula.{formula_by, level_by}
 use Rattle.closing.specs.Close.{Closing, close_rules, closed}
 use Rattle.closing.specs.declared.Formula.{Formula}
 use Rattle.accuracy.specs.Tally.{Held, Tally, book_of, started, tally_counts, held_at}
-use Rattle.accuracy.specs.Laws.{period_energy}
 use Rattle.accuracy.specs.Demand.{ldn_at}
 use Rattle.accuracy.specs.Terminal.{tally_in}
 use Rattle.accuracy.specs.Tolerance.{InRanges, with_samples, ldn_of, Between, Spread, SpreadLaw, SameButSamples, OtherDayLaw}

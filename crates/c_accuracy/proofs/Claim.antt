@@ -10,7 +10,7 @@ use borrow.Author.Tests.{ltb-false, not-false}
 use lib.Dec.{ltb, lit<, lit≤}
 use lib.IntN.{ℤ}
 use lib.ListN.{length, replicate}
-use Rattle.quantity.specs.Answers.{Reading, level, reading, highest_reading}
+use Rattle.quantity.specs.Answers.{Reading, reading, highest_reading}
 use Rattle.quantity.specs.Lent.{leaves}
 use Rattle.quantity.specs.Rules.{Outcome, refused, given, first_of, outcome}
 use Rattle.quantity.specs.declared.Bound.TheVariants.{Lowest, Highest}

@@ -137,8 +137,7 @@ fn record_of(ldn: Reading, method: Method) -> u64
 
 // Opens a day: the samples a second of its terminal, the first and the last daytime tick, the end of the previous day's last stretch in ticks after the new
 // midnight, and the book, for each class the flights by day and by night.
-#[unsafe(no_mangle)]
-pub extern "C" fn moatburdock_open_day(
+pub fn moatburdock_open_day(
     day: &mut [u32; 320],
     rate: u32,
     first: u32,
@@ -165,8 +164,7 @@ pub extern "C" fn moatburdock_open_day(
 
 // Offers an event to a day: its start in ticks after midnight, negative before it, the class of the flight, the wind in tenths of m/s, rain, snow or thunder,
 // the background level, the tolerance of the meter and the samples. Gives LAE and Lmax.
-#[unsafe(no_mangle)]
-pub extern "C" fn moatburdock_offer(
+pub fn moatburdock_offer(
     day: &mut [u32; 320],
     start: i32,
     class: u8,
@@ -178,9 +176,9 @@ pub extern "C" fn moatburdock_offer(
     exposure: &mut i32,
     lmax: &mut u32,
 ) -> u8
-    ensures { record { answer = result; lent = record { day = day.exit.now; exposure = exposure.new; lmax = lmax.new } }
+    ensures { record { answer = result; lent = record { day = day.new; exposure = exposure.new; lmax = lmax.new } }
         ≡ offer_leaves
-        (record { day = day.entry.now; exposure = exposure.old; lmax = lmax.old })
+        (record { day = day.old; exposure = exposure.old; lmax = lmax.old })
         (offering_as start class wind wet background tolerance samples.now) }
 {
     let recording = Recording {
@@ -209,8 +207,7 @@ pub extern "C" fn moatburdock_offer(
 }
 
 // The end to open the next day with: that of the day's last accepted stretch in ticks after the next midnight, and 600 s before it where there is none.
-#[unsafe(no_mangle)]
-pub extern "C" fn moatburdock_end_for_next_day(day: &[u32; 320]) -> i32
+pub fn moatburdock_end_for_next_day(day: &[u32; 320]) -> i32
     ensures { result ≡ end_given day.now }
 {
     quantity::after_midnight(ledger::end_for_next_day(day_words::decode(day)))
@@ -225,8 +222,7 @@ fn half_of(low: u32, high: u32) -> u64
 
 // Gives the energy of the events whose peak lies in a clock hour, of both periods and without weights, in two halves, the lower one first. An hour above 23
 // has 0.
-#[unsafe(no_mangle)]
-pub extern "C" fn moatburdock_hour_energy(day: &[u32; 320], hour: u32, energy: &mut [u64; 2])
+pub fn moatburdock_hour_energy(day: &[u32; 320], hour: u32, energy: &mut [u64; 2])
     ensures { energy.new ≡ energy_given day.now hour }
 {
     let sum = ledger::hour_energy(day_words::decode(day), hour);
@@ -235,8 +231,7 @@ pub extern "C" fn moatburdock_hour_energy(day: &[u32; 320], hour: u32, energy: &
 
 // Closes a day, with the calibration levels before and after. Gives the day's record, the lowest and the highest Ldn within the tolerances of the meters, Nd',
 // Nn' and the highest Lmax, and the highest Lmax of each class.
-#[unsafe(no_mangle)]
-pub extern "C" fn moatburdock_close_day(
+pub fn moatburdock_close_day(
     day: &[u32; 320],
     before: u32,
     after: u32,
@@ -323,24 +318,21 @@ fn give_mean(answer: MeanAnswer, level: &mut i32) -> u8
 }
 
 // The mean of a week, of exactly 7 records.
-#[unsafe(no_mangle)]
-pub extern "C" fn moatburdock_week_mean(records: &[u64], level: &mut i32) -> u8
+pub fn moatburdock_week_mean(records: &[u64], level: &mut i32) -> u8
     ensures { record { answer = result; lent = level.new } ≡ week_leaves level.old records.now }
 {
     give_mean(mean_of(records, 7, 7), level)
 }
 
 // The mean of a year, of 1 to 366 records.
-#[unsafe(no_mangle)]
-pub extern "C" fn moatburdock_year_mean(records: &[u64], level: &mut i32) -> u8
+pub fn moatburdock_year_mean(records: &[u64], level: &mut i32) -> u8
     ensures { record { answer = result; lent = level.new } ≡ year_leaves level.old records.now }
 {
     give_mean(mean_of(records, 1, 366), level)
 }
 
 // The record at a place of the year.
-#[unsafe(no_mangle)]
-pub extern "C" fn moatburdock_read_record(records: &[u64], place: usize, day_record: &mut u64) -> u8
+pub fn moatburdock_read_record(records: &[u64], place: usize, day_record: &mut u64) -> u8
     ensures { record { answer = result; lent = day_record.new }
         ≡ read_leaves day_record.old records.now place }
 {
@@ -352,8 +344,7 @@ pub extern "C" fn moatburdock_read_record(records: &[u64], place: usize, day_rec
 }
 
 // Puts a new record at a place of the year.
-#[unsafe(no_mangle)]
-pub extern "C" fn moatburdock_rewrite_record(records: &mut [u64], place: usize, new: u64) -> u8
+pub fn moatburdock_rewrite_record(records: &mut [u64], place: usize, new: u64) -> u8
     ensures { record { answer = result; lent = records.new } ≡ rewrite_leaves records.old place new }
 {
     if records.len() <= place {
@@ -388,8 +379,7 @@ fn margin_number(margin: Margin) -> i32
 }
 
 // The verdict on land of a class, for a year's level, a sensitive building or none, and the highest Lmax. Gives what it names and the margin.
-#[unsafe(no_mangle)]
-pub extern "C" fn moatburdock_verdict(
+pub fn moatburdock_verdict(
     class: u8,
     yearly: i32,
     sensitive: bool,
@@ -397,9 +387,9 @@ pub extern "C" fn moatburdock_verdict(
     finding: &mut u8,
     margin: &mut i32,
 ) -> u8
-    ensures { record { answer = result; lent = record { finding = finding.exit.now; margin = margin.new } }
+    ensures { record { answer = result; lent = record { finding = finding.new; margin = margin.new } }
         ≡ verdict_leaves
-        (record { finding = finding.entry.now; margin = margin.old })
+        (record { finding = finding.old; margin = margin.old })
         class yearly sensitive lmax }
 {
     let verdict = land::verdict(class, level_from(yearly), sensitive, highest_from(lmax));
@@ -416,8 +406,7 @@ pub extern "C" fn moatburdock_verdict(
 }
 
 // The class of a land code of two ASCII bytes.
-#[unsafe(no_mangle)]
-pub extern "C" fn moatburdock_land_class(letter: u8, digit: u8, class: &mut u8) -> u8
+pub fn moatburdock_land_class(letter: u8, digit: u8, class: &mut u8) -> u8
     ensures { record { answer = result; lent = class.new } ≡ class_leaves class.old letter digit }
 {
     let answer = land::land_class(letter, digit);
@@ -432,8 +421,7 @@ pub extern "C" fn moatburdock_land_class(letter: u8, digit: u8, class: &mut u8) 
 
 // Pairs movements with peaks that are no further apart than the tolerance, each at most once and as many as can be. All times are in ticks after midnight,
 // negative before it. Gives the count of the pairs, and for each entry its partner's place counted from 1, or 0.
-#[unsafe(no_mangle)]
-pub extern "C" fn moatburdock_pair_movements(
+pub fn moatburdock_pair_movements(
     movements: &[i32],
     peaks: &[i32],
     tolerance: u32,
@@ -441,15 +429,15 @@ pub extern "C" fn moatburdock_pair_movements(
     peak_marks: &mut [u16],
     count: &mut u16,
 ) -> u8
-    ensures { PairLeaves (instants movements.entry.now) (instants peaks.now) tolerance
+    ensures { PairLeaves (instants movements.now) (instants peaks.now) tolerance
         (record {
-          count = count.entry.now;
+          count = count.old;
           marks = record { movements = movement_marks.old; peaks = peak_marks.old };
         })
         (record {
           answer = result;
           lent = record {
-            count = count.exit.now;
+            count = count.new;
             marks = record { movements = movement_marks.new; peaks = peak_marks.new };
           };
         }) }

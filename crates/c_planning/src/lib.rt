@@ -49,8 +49,7 @@ fn level_by_runs(thrusts: &[f64], levels: &[f64], thrust: f64) -> ThrustAnswer
 }
 
 // The level in dB at a thrust in kN, by rows of a thrust and a level each: the thrusts in one run, the levels in another.
-#[unsafe(no_mangle)]
-pub extern "C" fn moatburdock_level_at_thrust(
+pub fn moatburdock_level_at_thrust(
     thrusts: &[f64],
     levels: &[f64],
     thrust: f64,
@@ -80,14 +79,9 @@ const BEHIND: u8 = 2;
 
 // The correction in dB for a point at an angle in degrees from the start of roll: where the point lies and, beside and behind, the correction. In front there is
 // none, and what stands in its place stays.
-#[unsafe(no_mangle)]
-pub extern "C" fn moatburdock_correction_at_angle(
-    angle: f64,
-    position: &mut u8,
-    correction: &mut f64,
-) -> u8
-    ensures correction_after { record { answer = result; lent = record { position = position.exit.now; correction = correction.new } }
-        ≡ correction_leaves (record { position = position.entry.now; correction = correction.old }) angle }
+pub fn moatburdock_correction_at_angle(angle: f64, position: &mut u8, correction: &mut f64) -> u8
+    ensures correction_after { record { answer = result; lent = record { position = position.new; correction = correction.new } }
+        ≡ correction_leaves (record { position = position.old; correction = correction.old }) angle }
     ensures finite { IsFinite (correction_at_angle angle) }
 {
     let answer = start_of_roll::correction_at_angle(angle);
@@ -114,8 +108,7 @@ pub extern "C" fn moatburdock_correction_at_angle(
 
 // How many mixes of so many measured flights would pass on a book: for each class the flights by day and by night. The table is lent for a row of N' + 1 numbers
 // for each class, which are left free.
-#[unsafe(no_mangle)]
-pub extern "C" fn moatburdock_count_mixes(
+pub fn moatburdock_count_mixes(
     daytime: &[u16],
     night: &[u16],
     measured: u32,
@@ -123,8 +116,8 @@ pub extern "C" fn moatburdock_count_mixes(
     count: &mut u64,
 ) -> u8
     ensures { MixesLeave daytime.now night.now measured
-        (record { count = count.entry.now; table = table.old })
-        (record { answer = result; lent = record { count = count.exit.now; table = table.new } }) }
+        (record { count = count.old; table = table.old })
+        (record { answer = result; lent = record { count = count.new; table = table.new } }) }
 {
     let answer = mixes::count_mixes(daytime, night, measured, table);
     match answer {

@@ -105,6 +105,7 @@ fn day_of(words: &[u32]) -> Day
 }
 
 // The reader that some words stand for.
+#[tactic(auto, unfolding(crate::specs::Words::reader_from))]
 fn decode(words: &[u32; 336]) -> Reader
     ensures { result ≡ reader_from words.now }
 {
@@ -216,8 +217,7 @@ fn numbers_of(came: Came) -> [u32; 8]
 }
 
 // Opens a reader: that of a file of which nothing is read.
-#[unsafe(no_mangle)]
-pub extern "C" fn moatburdock_open_reader(reader: &mut [u32; 336])
+pub fn moatburdock_open_reader(reader: &mut [u32; 336])
     ensures { reader.new ≡ reader_words fresh_reader }
 {
     encode(steps::fresh(), reader);
@@ -225,8 +225,7 @@ pub extern "C" fn moatburdock_open_reader(reader: &mut [u32; 336])
 
 // A step of a reader: `window` holds the bytes of the file that are not used up yet, as many as there are at hand, and `ended` says that the file ends
 // with them. Answers what came, and gives how many bytes are used up, the numbers of what came, and its line.
-#[unsafe(no_mangle)]
-pub extern "C" fn moatburdock_read_step(
+pub fn moatburdock_read_step(
     reader: &mut [u32; 336],
     window: &[u8],
     ended: bool,
@@ -238,7 +237,7 @@ pub extern "C" fn moatburdock_read_step(
     ensures { record {
       answer = result;
       lent = record {
-        reader = reader.exit.now;
+        reader = reader.new;
         used = used.new;
         numbers = numbers.new;
         line = line.new;
@@ -246,7 +245,7 @@ pub extern "C" fn moatburdock_read_step(
       };
     }
         ≡ step_leaves
-        reader.entry.now line.old window.now ended }
+        reader.old line.old window.now ended }
 {
     let stepped = steps::step(decode(reader), window, ended);
     let next = stepped.reader;

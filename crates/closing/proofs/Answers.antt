@@ -44,13 +44,13 @@ drifted day before after h =
 
 -- no drift: 12, or the closing by the method
 module _ (day : Day) (before after : ℕ) (steady : ltb largest_drift (distance before after) ≡ false) where
-  rules : first_of (close_rules before after (counts_of day)) ≡ first_of (method_rule (counts_of day) ∷ [])
-  rules = skip _ _ steady
+  left_rules : first_of (close_rules before after (counts_of day)) ≡ first_of (method_rule (counts_of day) ∷ [])
+  left_rules = skip _ _ steady
 
   pub no_method : {k : ℕ} → method_of (counts_of day) ≡ refused k → refused k ≡ closed day before after
   no_method e =
       let c = counts_of day in
-      rw rules (sym (refused_alike (first_of (method_rule c ∷ [])) (method_by c) (closing_of day) e))
+      rw left_rules (sym (refused_alike (first_of (method_rule c ∷ [])) (method_by c) (closing_of day) e))
 
   pub by_method : {m : ℕ} → method_of (counts_of day) ≡ given m → {l : LdnRange}
       → l ≡ range_by (formula_by day.settings.rate m (totals_of day)) day
@@ -67,4 +67,4 @@ module _ (day : Day) (before after : ℕ) (steady : ltb largest_drift (distance 
   by_method e r =
       let c = counts_of day in
       let m = (given_value (first_of (method_rule c ∷ [])) e).1 in
-      rw (rules, given_alike (first_of (method_rule c ∷ [])) (method_by c) (closing_of day) e, r, ← m)
+      rw (left_rules, given_alike (first_of (method_rule c ∷ [])) (method_by c) (closing_of day) e, r, ← m)

@@ -2,6 +2,8 @@
 // what came and what should come; the last one counts the differences. One line is wrong on purpose, so that a difference is seen to be counted.
 #![tactic(auto)]
 
-fn main() {
-    script::run(true);
+use std::io;
+
+fn main(rt: HostRuntime) -> io::Result<()> {
+    script::run(&mut rt.stdin(), &mut rt.stdout(), true)
 }

@@ -4,13 +4,14 @@
 // files whose ways of reading differ. The cases are made by tools/file_cases.
 #![tactic(auto)]
 
-ghost use Rattle.std.specs.Prelude.{◌≡◌, ◌≤◌, min, length};
-ghost use Rattle.io.specs.Counts.{IsPrefixLen};
+ghost use Rattle.std.specs.Prelude.{◌≡◌, ◌≤◌, IfOk, min, length};
+ghost use Rattle.std.specs.Counts.{IsPrefixLen};
 
 use day_file::FileAnswer;
 use ledger::Day;
-use libc::{STDIN_FILENO, STDOUT_FILENO};
 use quantity::Level;
+use std::io;
+use std::io::{Read, Write};
 use steps::{Came, Reader};
 
 // No run has more cases, and no file takes more steps.
@@ -131,9 +132,9 @@ fn run_in_pieces(file: &[u8], piece: usize, text: &mut [u8]) -> usize
 
 // Whether a file that is delivered in pieces comes to a text.
 fn comes_to(file: &[u8], piece: usize, text: &[u8]) -> bool {
-    let mut other = io::buffer();
+    let mut other = [0u8; 4096];
     let count = run_in_pieces(file, piece, &mut other);
-    check::same(&other[..count], text)
+    &other[..count] == text
 }
 
 // Whether a text ends with another.
@@ -142,7 +143,7 @@ fn ends_with(text: &[u8], ending: &[u8]) -> bool {
         return false;
     }
     let from = text.len() - ending.len();
-    check::same(&text[from..], ending)
+    &text[from..] == ending
 }
 
 // Whether a file comes to a text byte by byte and in pieces of seven bytes, and the text ends with what reading from memory gives.
@@ -165,42 +166,48 @@ fn came_of(answer: FileAnswer) -> Came {
 }
 
 // Writes a case: its label, the last line or each line, and the line of the day that is left. `line` is the length of the last line in `ending`.
-fn write_case(label: &[u8; 40], text: &[u8], ending: &[u8], line: usize) {
-    io::write_all(STDOUT_FILENO, label);
+fn write_case<W: Write>(
+    out: &mut W,
+    label: &[u8; 40],
+    text: &[u8],
+    ending: &[u8],
+    line: usize,
+) -> io::Result<()> {
+    out.write_all(label)?;
     let behind = least(line, ending.len());
     let left = ending.len() - behind;
     if label[0] == b'*' {
         let lines = text.len() - least(left, text.len());
-        io::write_all(STDOUT_FILENO, b"\n");
-        io::write_all(STDOUT_FILENO, &text[..lines]);
+        out.write_all(b"\n")?;
+        out.write_all(&text[..lines])?;
     } else {
-        io::write_all(STDOUT_FILENO, &ending[..behind]);
+        out.write_all(&ending[..behind])?;
     }
-    io::write_all(STDOUT_FILENO, b"    leaves ");
-    io::write_all(STDOUT_FILENO, &ending[behind..]);
+    out.write_all(b"    leaves ")?;
+    out.write_all(&ending[behind..])
 }
 
 // Reads a file in each way, writes what comes of it, and says whether the ways agree.
-fn run_file(label: &[u8; 40], file: &[u8]) -> bool {
+fn run_file<W: Write>(out: &mut W, label: &[u8; 40], file: &[u8]) -> io::Result<bool> {
     let read = day_file::day_of_file(file);
     let day = read.day;
     let answer = read.answer;
     let mut ending = [0u8; 128];
     let line = append_line(&mut ending, 0, came_of(answer));
     let whole = append_left(&mut ending, line, day);
-    let mut text = io::buffer();
+    let mut text = [0u8; 4096];
     let count = run_in_pieces(file, file.len(), &mut text);
-    write_case(label, &text[..count], &ending[..whole], line);
-    all_agree(file, &text[..count], &ending[..whole])
+    write_case(out, label, &text[..count], &ending[..whole], line)?;
+    Ok(all_agree(file, &text[..count], &ending[..whole]))
 }
 
 // Reads the bytes of a file, and gives their number.
-fn read_file(held: &mut [u8], size: usize) -> usize
-    ensures prefix_len { IsPrefixLen result held.new }
+fn read_file<R: Read>(input: &mut R, held: &mut [u8], size: usize) -> io::Result<usize>
+    ensures prefix_len { IfOk result (λ n. IsPrefixLen n held.new) }
     ensures whole { length held.new ≡ length held.old }
 {
     let most = least(size, held.len());
-    io::read_full(STDIN_FILENO, &mut held[..most])
+    stream::fill(input, &mut held[..most])
 }
 
 // The next case: whether there is one, and 1 where its ways of reading differ.
@@ -211,56 +218,54 @@ struct Case {
 }
 
 // Runs the next case, if there is one.
-fn run_case(held: &mut [u8]) -> Case
-    ensures different_bound { result.different ≤ 1 }
+fn run_case<R: Read, W: Write>(input: &mut R, out: &mut W, held: &mut [u8]) -> io::Result<Case>
+    ensures different_bound { IfOk result (λ r. r.different ≤ 1) }
     ensures whole { length held.new ≡ length held.old }
 {
     let mut label = [0u8; 40];
     let mut size = [0u8; 4];
-    if io::read_full(STDIN_FILENO, &mut label) < 40 {
-        return Case {
+    if stream::fill(input, &mut label)? < 40 {
+        return Ok(Case {
             found: false,
             different: 0,
-        };
+        });
     }
-    if io::read_full(STDIN_FILENO, &mut size) < 4 {
-        return Case {
+    if stream::fill(input, &mut size)? < 4 {
+        return Ok(Case {
             found: false,
             different: 0,
-        };
+        });
     }
-    let count = read_file(held, little_endian::four_bytes(&size, 0) as usize);
-    if run_file(&label, &held[..count]) {
-        return Case {
+    let count = read_file(input, held, little_endian::four_bytes(&size, 0) as usize)?;
+    if run_file(out, &label, &held[..count])? {
+        return Ok(Case {
             found: true,
             different: 0,
-        };
+        });
     }
-    Case {
+    Ok(Case {
         found: true,
         different: 1,
-    }
+    })
 }
 
 // Runs each case, and gives the number of those whose ways of reading differ.
-fn run_cases(held: &mut [u8]) -> u32 {
+fn run_cases<R: Read, W: Write>(input: &mut R, out: &mut W, held: &mut [u8]) -> io::Result<u32> {
     let mut cases = 0;
     let mut different = 0;
     while cases < MOST_CASES {
-        let case = run_case(held);
+        let case = run_case(input, out, held)?;
         if !case.found {
-            return different;
+            return Ok(different);
         }
         different += case.different;
         cases += 1;
     }
-    different
+    Ok(different)
 }
 
-fn main() {
-    let mut held = io::large_buffer();
-    let different = run_cases(&mut held);
-    io::write_all(STDOUT_FILENO, b"files whose ways of reading differ: ");
-    io::print_decimal(STDOUT_FILENO, different as u64);
-    io::write_all(STDOUT_FILENO, b"\n");
+fn main(rt: HostRuntime) -> io::Result<()> {
+    let mut held = [0u8; 65536];
+    let different = run_cases(&mut rt.stdin(), &mut rt.stdout(), &mut held)?;
+    println!(rt; "files whose ways of reading differ: {different}")
 }

@@ -1,6 +1,7 @@
 -- Answers that are searched one after the other, and a byte that is searched from a place on.
-use Rattle.std.proofs.Common.{◌≡◌, ℕ, suc, ◌+◌, ◌-◌, ◌<◌, ◌≤◌, Bool, true, false, eqb, List, [], ◌∷◌, length, get_or, take, drop, sym, refl, ap, ◌∙◌, ap₂, true≢false, arith, length-drop, drop_of_length-le, drop-cons, drop-drop, eq-eqb, ne_eqb, eqb-true}
-use Rattle.quantity.proofs.Tests.{test, both}
+use Rattle.std.proofs.Common.{◌≡◌, ℕ, suc, ◌+◌, ◌-◌, ◌<◌, ◌≤◌, Bool, true, false, ◌&&◌, eqb, List, [], ◌∷◌, length, get_or, take, drop, sym, refl, ap, ◌∙◌, arith, length-drop, drop_of_length-le, drop-cons, drop-drop, eq-eqb, ne_eqb}
+use lib.Pointwise.{pointwise}
+use Rattle.quantity.proofs.Tests.{test}
 use Rattle.judging.specs.Judging.{up_to, same, is_later, is_one_of}
 
 module _ (byte : ℕ) where
@@ -36,22 +37,13 @@ module _ (byte : ℕ) where
     pub reached_part : take (to - from) (drop from xs) ≡ up_to byte (drop from xs)
     reached_part = let e : to - from ≡ length (up_to byte (drop from xs)) = omega arith in rw e (up_to_taken (drop from xs))
 
--- the test of a comparison
-same_self : (xs : List ℕ) → same xs xs ≡ true
+-- what `==` answers at two runs of bytes
+same_is : (xs ys : List ℕ) → pointwise eqb xs ys ≡ same xs ys
 unfolding same
-same_self [] = refl
-same_self (x ∷ xs) = rw (eq-eqb x x refl, same_self xs)
-
-same_true : (xs ys : List ℕ) → same xs ys ≡ true → xs ≡ ys
-unfolding same
-same_true [] [] h = refl
-same_true [] (y ∷ ys) h = absurd (true≢false (sym h))
-same_true (x ∷ xs) [] h = absurd (true≢false (sym h))
-same_true (x ∷ xs) (y ∷ ys) h = let b = both (eqb x y) (same xs ys) h in ap₂ ◌∷◌ (eqb-true x y b.0) (same_true xs ys b.1)
-
-pub same_is : (r : Bool) (xs ys : List ℕ) → (r ≡ true → xs ≡ ys) × (xs ≡ ys → r ≡ true) → r ≡ same xs ys
-same_is true xs ys p = rw (p.0 refl) (sym (same_self ys))
-same_is false xs ys p = test (same xs ys) (λ t. p.1 (same_true xs ys t) ∙ sym t) (λ t. sym t)
+same_is [] [] = refl
+same_is [] (y ∷ ys) = refl
+same_is (x ∷ xs) [] = refl
+same_is (x ∷ xs) (y ∷ ys) = ap (λ (b : Bool). eqb x y && b) (same_is xs ys)
 
 -- the answers behind the first
 module _ (came : List ℕ) where
@@ -67,10 +59,10 @@ module _ (came : List ℕ) where
 
 -- `is_one_of` at a turn: the answer from a place up to another is compared, and it is not the last where the other place is before the end
 module _ (came answers : List ℕ) (from to : ℕ) (reached : to ≡ from + length (up_to 124 (drop from answers))) (within : from ≤ length answers) where
-  module _ (r : Bool) (told : (r ≡ true → came ≡ take (to - from) (drop from answers)) × (came ≡ take (to - from) (drop from answers) → r ≡ true))
+  module _ (r : Bool) (told : r ≡ pointwise eqb came (take (to - from) (drop from answers)))
       (left : is_one_of came (drop from answers) ≡ is_one_of came answers) where
     first : same came (up_to 124 (drop from answers)) ≡ r
-    first = sym (same_is r came (take (to - from) (drop from answers)) told ∙ ap (λ (l : List ℕ). same came l) (reached_part 124 answers from to reached))
+    first = sym (told ∙ same_is came (take (to - from) (drop from answers)) ∙ ap (λ (l : List ℕ). same came l) (reached_part 124 answers from to reached))
 
     pub is_this : r ≡ true → true ≡ is_one_of came answers
     is_this h = rw (first ∙ h) at left

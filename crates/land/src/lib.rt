@@ -98,6 +98,7 @@ pub fn class_number(class: LandClass) -> u8
 }
 
 // The class with a number.
+#[tactic(auto, unfolding(quantity::specs::Rules::first_of))]
 fn class_numbered(number: u8) -> LandClassAnswer
     ensures { land_class_reading result ≡ land_class_of number }
 {
@@ -111,6 +112,7 @@ fn class_numbered(number: u8) -> LandClassAnswer
 }
 
 // The class of the land code of two ASCII bytes.
+#[tactic(auto, unfolding(crate::specs::Classes::class_of, quantity::specs::Rules::first_of))]
 pub fn land_class(letter: u8, digit: u8) -> LandClassAnswer
     ensures { land_class_reading result ≡ land_class_of (class_of letter digit) }
 {
@@ -246,6 +248,7 @@ fn finding_of(limit: Limit, margin: Margin, maximum: bool) -> Finding
 }
 
 // The verdict on land of a class.
+#[tactic(auto, using(crate::proofs::Assessing::known_class), unfolding(quantity::specs::Rules::first_of))]
 fn assess(
     class: LandClass,
     yearly: Reading,

@@ -2,9 +2,10 @@
 // is compared with levels of document 01.
 #![tactic(auto)]
 
-use libc::STDOUT_FILENO;
 use mean::{MeanAnswer, ReadAnswer};
 use quantity::{Check, DayAnswer, Method, Reading, SignedLevel};
+use std::io;
+use std::io::Write;
 
 fn week_of_7(days: [DayAnswer; 7]) -> MeanAnswer {
     mean::week_mean(&days)
@@ -40,119 +41,120 @@ fn day_of(level: i32) -> DayAnswer {
     }
 }
 
-fn text(bytes: &[u8]) {
-    io::write_all(STDOUT_FILENO, bytes);
+fn text<W: Write>(out: &mut W, bytes: &[u8]) -> io::Result<()> {
+    out.write_all(bytes)
 }
 
-fn show_number(number: u64) {
-    text(b" ");
-    io::print_decimal(STDOUT_FILENO, number);
+fn show_number<W: Write>(out: &mut W, number: u64) -> io::Result<()> {
+    write!(out, " {number}")
 }
 
-fn show_refusal(number: u8) {
-    text(b" R");
-    show_number(number as u64);
+fn show_refusal<W: Write>(out: &mut W, number: u8) -> io::Result<()> {
+    write!(out, " R {number}")
 }
 
 // A number, behind '-' where it is negative.
-fn show_signed(number: i32) {
-    if number < 0 {
-        text(b" -");
-        io::print_decimal(STDOUT_FILENO, quantity::size_of(number) as u64);
-    } else {
-        show_number(quantity::size_of(number) as u64);
-    }
+fn show_signed<W: Write>(out: &mut W, number: i32) -> io::Result<()> {
+    write!(out, " {number}")
 }
 
-fn show_level(level: Reading) {
+fn show_level<W: Write>(out: &mut W, level: Reading) -> io::Result<()> {
     match level {
-        Reading::At(at) => show_signed(at.0),
-        Reading::BelowScale => text(b" -"),
+        Reading::At(at) => show_signed(out, at.0),
+        Reading::BelowScale => text(out, b" -"),
     }
 }
 
-fn show_mean(label: &[u8], answer: MeanAnswer) {
-    text(label);
+fn show_mean<W: Write>(out: &mut W, label: &[u8], answer: MeanAnswer) -> io::Result<()> {
+    text(out, label)?;
     match answer {
-        MeanAnswer::Mean(level) => show_level(level),
-        MeanAnswer::Refused(refusal) => show_refusal(quantity::refusal_number(refusal)),
+        MeanAnswer::Mean(level) => show_level(out, level)?,
+        MeanAnswer::Refused(refusal) => show_refusal(out, quantity::refusal_number(refusal))?,
     }
-    text(b"\n");
+    text(out, b"\n")
 }
 
-fn show_check(answer: Check) {
+fn show_check<W: Write>(out: &mut W, answer: Check) -> io::Result<()> {
     match answer {
-        Check::Passed => text(b" A"),
-        Check::Refused(refusal) => show_refusal(quantity::refusal_number(refusal)),
+        Check::Passed => text(out, b" A"),
+        Check::Refused(refusal) => show_refusal(out, quantity::refusal_number(refusal)),
     }
 }
 
-fn show_read(read: ReadAnswer) {
+fn show_read<W: Write>(out: &mut W, read: ReadAnswer) -> io::Result<()> {
     match read {
         ReadAnswer::Record(day) => {
             let level = day.level;
-            show_level(level);
+            show_level(out, level)
         }
-        ReadAnswer::Refused(refusal) => show_refusal(quantity::refusal_number(refusal)),
+        ReadAnswer::Refused(refusal) => show_refusal(out, quantity::refusal_number(refusal)),
     }
 }
 
-fn show_rewriting(label: &[u8], back: ReadBack) {
+fn show_rewriting<W: Write>(out: &mut W, label: &[u8], back: ReadBack) -> io::Result<()> {
     let answer = back.answer;
     let read = back.read;
-    text(label);
-    show_check(answer);
-    show_read(read);
-    text(b"\n");
+    text(out, label)?;
+    show_check(out, answer)?;
+    show_read(out, read)?;
+    text(out, b"\n")
 }
 
 // Means and records of document 01.
-fn show_loud_days() {
+fn show_loud_days<W: Write>(out: &mut W) -> io::Result<()> {
     let six = day_of(6000);
     let seven = day_of(7000);
     show_mean(
+        out,
         b"six days 6000 and one 7000, 6359:",
         week_of_7([six, six, six, six, six, six, seven]),
-    );
-    show_mean(b"seven days 6000, 6000:", week_of_7([six; 7]));
-    show_mean(b"366 days 6000, 6000:", year_of_366([six; 366]));
-    show_mean(b"367 days, R 13:", year_of_367([six; 367]));
+    )?;
+    show_mean(out, b"seven days 6000, 6000:", week_of_7([six; 7]))?;
+    show_mean(out, b"366 days 6000, 6000:", year_of_366([six; 366]))?;
+    show_mean(out, b"367 days, R 13:", year_of_367([six; 367]))?;
     show_mean(
+        out,
         b"a day above 20000, R 14:",
         week_of_7([six, six, day_of(20001), six, six, six, six]),
-    );
+    )?;
     show_rewriting(
+        out,
         b"the last record rewritten and read, A 7000:",
         rewrite_and_read([six; 7], 6, seven, 6),
-    );
+    )?;
     show_rewriting(
+        out,
         b"another record read, A 6000:",
         rewrite_and_read([six; 7], 6, seven, 5),
-    );
+    )?;
     show_rewriting(
+        out,
         b"no such place, R 13 and R 13:",
         rewrite_and_read([six; 7], 7, seven, 7),
-    );
+    )?;
     show_rewriting(
+        out,
         b"a level above 20000, R 14 and 6000:",
         rewrite_and_read([six; 7], 0, day_of(20001), 0),
-    );
+    )
 }
 
 // Those of quiet fields.
-fn show_quiet_days() {
+fn show_quiet_days<W: Write>(out: &mut W) -> io::Result<()> {
     let six = day_of(6000);
     let lowest = day_of(-5000);
     let quiet = DayAnswer {
         level: Reading::BelowScale,
         method: Method::One,
     };
-    show_mean(b"seven days -5000, -5000:", week_of_7([lowest; 7]));
+    show_mean(out, b"seven days -5000, -5000:", week_of_7([lowest; 7]))?;
     show_mean(
+        out,
         b"a day below scale among them, -:",
         week_of_7([lowest, lowest, lowest, quiet, lowest, lowest, lowest]),
-    );
+    )?;
     show_mean(
+        out,
         b"six days -1 and one 845, 268:",
         week_of_7([
             day_of(-1),
@@ -163,26 +165,31 @@ fn show_quiet_days() {
             day_of(-1),
             day_of(-1),
         ]),
-    );
+    )?;
     show_mean(
+        out,
         b"a day under -5000, R 14:",
         week_of_7([six, six, day_of(-5001), six, six, six, six]),
-    );
+    )?;
     show_rewriting(
+        out,
         b"a record of -5000 written and read, A -5000:",
         rewrite_and_read([six; 7], 3, lowest, 3),
-    );
+    )?;
     show_rewriting(
+        out,
         b"a record of -1 written and read, A -1:",
         rewrite_and_read([six; 7], 3, day_of(-1), 3),
-    );
+    )?;
     show_rewriting(
+        out,
         b"a level under -5000, R 14 and 6000:",
         rewrite_and_read([six; 7], 0, day_of(-5001), 0),
-    );
+    )
 }
 
-fn main() {
-    show_loud_days();
-    show_quiet_days();
+fn main(rt: HostRuntime) -> io::Result<()> {
+    let mut out = rt.stdout();
+    show_loud_days(&mut out)?;
+    show_quiet_days(&mut out)
 }

@@ -1,12 +1,12 @@
--- A condition on each of the first classes: class by class, and the first class apart.
-use mathlib.Core.Path.{◌≡◌, refl}
+-- A condition on each of the first classes: class by class, and the first class apart; the condition on the shares is one.
+use mathlib.Core.Path.{◌≡◌, refl, ap, sym, ◌∙◌}
 use mathlib.Core.Bool.{Bool, true, false, ◌&&◌}
 use Prim.Native.Nat.{ℕ, zero, suc, ◌<◌}
 use native.Mathlib.Omega.{arith}
 use borrow.Author.Tests.{eqb-true, eqb-false}
 use lib.Dec.{eqb}
 use Rattle.quantity.proofs.Tests.{test, both}
-use Rattle.method.specs.Method.{on_each_class}
+use Rattle.method.specs.Method.{share_holds, shares_hold, on_each_class}
 use Rattle.method.specs.declared.Count.{Count}
 
 module _ (holds : Count → Bool) where
@@ -31,3 +31,20 @@ module _ (holds : Count → Bool) where
   unfolding on_each_class
   first_class class zero = refl
   first_class class (suc n) = rw (first_class class n) (swap (holds (class (suc n))) (holds (class 0)) (on_each_class holds (λ k. class (suc k)) n))
+
+-- the condition of method two is such a condition
+module _ (all : Count) where
+  pub shares_each : (class : ℕ → Count) (k : ℕ) → shares_hold all class k ≡ on_each_class (share_holds all) class k
+  unfolding shares_hold on_each_class
+  shares_each class zero = refl
+  shares_each class (suc k) = ap (λ b. share_holds all (class k) && b) (shares_each class k)
+
+  pub shares_known : (class : ℕ → Count) (n : ℕ) → shares_hold all class n ≡ true → (k : ℕ) → k < n → share_holds all (class k) ≡ true
+  shares_known class n e = each_known (share_holds all) class n (sym (shares_each class n) ∙ e)
+
+  pub shares_shown : (class : ℕ → Count) (n : ℕ) → ((k : ℕ) → k < n → share_holds all (class k) ≡ true) → shares_hold all class n ≡ true
+  shares_shown class n h = shares_each class n ∙ each_shown (share_holds all) class n h
+
+  pub first_share : (class : ℕ → Count) (n : ℕ) → shares_hold all class (suc n) ≡ (share_holds all (class 0) && shares_hold all (λ k. class (suc k)) n)
+  first_share class n =
+      shares_each class (suc n) ∙ first_class (share_holds all) class n ∙ ap (λ b. share_holds all (class 0) && b) (sym (shares_each (λ k. class (suc k)) n))

@@ -10,7 +10,7 @@ use Rattle.quantity.specs.Numbers.{distance}
 use Rattle.quantity.proofs.Tests.{test, both}
 use Rattle.ledger.specs.Book.{most_classes}
 use Rattle.method.specs.declared.Count.{Count}
-use Rattle.method.specs.Method.{on_each_class, is_measured, share_holds, shares_hold}
+use Rattle.method.specs.Method.{is_measured, share_holds, shares_hold}
 
 -- the condition depends on the first k classes alone
 pub record SharesLeft (all : Count) (class : ℕ → Count) (k : ℕ) : Type 0 where
@@ -22,14 +22,14 @@ shares_start all class = record { within = omega arith; same = refl }
 
 shares_more : (all : Count) (class : ℕ → Count) (k : ℕ) → 0 < k
     → shares_hold all class k ≡ (share_holds all (class (k - 1)) && shares_hold all class (k - 1))
-unfolding on_each_class
+unfolding shares_hold
 shares_more all class zero h = absurd (omega arith)
 shares_more all class (suc k) h =
     let e : suc k - 1 ≡ k = omega arith in
     rw e refl
 
 shares_none : (all : Count) (class : ℕ → Count) (k : ℕ) → k ≤ 0 → shares_hold all class k ≡ true
-unfolding on_each_class
+unfolding shares_hold
 shares_none all class zero h = refl
 shares_none all class (suc k) h = absurd (omega arith)
 

@@ -42,14 +42,15 @@ abbrev pub share_holds : Count → Count → Bool
 share_holds all c =
     is_measured c && leb (20 * distance (c.events * all.flights) (c.flights * all.events)) (all.flights * all.events)
 
--- a condition on each of the first k classes
+-- each of the first k classes
+unfoldable pub shares_hold : Count → (ℕ → Count) → ℕ → Bool
+shares_hold all class zero = true
+shares_hold all class (suc k) = share_holds all (class k) && shares_hold all class k
+
+-- any condition on each of the first k classes
 unfoldable pub on_each_class : (Count → Bool) → (ℕ → Count) → ℕ → Bool
 on_each_class holds class zero = true
 on_each_class holds class (suc k) = holds (class k) && on_each_class holds class k
-
--- the condition of method two on each of them
-abbrev pub shares_hold : Count → (ℕ → Count) → ℕ → Bool
-shares_hold all class k = on_each_class (share_holds all) class k
 
 -- method two: an accepted event, and the condition on each class
 abbrev pub method_two_holds : Totals → (ℕ → Count) → Bool

@@ -2,6 +2,8 @@
 // difference is shown; the last line counts them. One line is wrong on purpose, so that a difference is seen to be counted.
 #![tactic(auto)]
 
-fn main() {
-    script::run(false);
+use std::io;
+
+fn main(rt: HostRuntime) -> io::Result<()> {
+    script::run(&mut rt.stdin(), &mut rt.stdout(), false)
 }

@@ -11,7 +11,7 @@ use borrow.Author.Tests.{eqb-true, eqb-false, eq-eqb, ne_eqb}
 use Rattle.quantity.proofs.Tests.{test}
 use Rattle.ledger.specs.Book.{sum_of, both_periods}
 use Rattle.method.specs.Method.{on_each_class, share_holds, shares_hold}
-use Rattle.method.proofs.Each.{first_class}
+use Rattle.method.proofs.Each.{first_class, first_share}
 use Rattle.method.specs.declared.Count.{Count}
 use Rattle.mixes.specs.Mix.{book_count, class_in, is_within_book, headed, lists_of, passing, mixes_of}
 use Rattle.mixes.specs.Ways.{fits, sum_below, with_class, ways}
@@ -104,11 +104,11 @@ module _ (all : Count) (d n : ℕ) (daytime night : List ℕ) (lists : List (Lis
       rw (
         rest_sum x (sum_of l) s h,
         first_class is_within_book (class_in (d ∷ daytime) (n ∷ night) (x ∷ l)) (length daytime),
-        first_class (share_holds all) (class_in (d ∷ daytime) (n ∷ night) (x ∷ l)) (length daytime),
+        first_share all (class_in (d ∷ daytime) (n ∷ night) (x ∷ l)) (length daytime),
       )
       (shuffle (eqb (sum_of l) (s - x))
       (is_within_book (record { flights = d + n; events = x })) (on_each_class is_within_book (class_in daytime night l) (length daytime))
-      (share_holds all (record { flights = d + n; events = x })) (on_each_class (share_holds all) (class_in daytime night l) (length daytime)))
+      (share_holds all (record { flights = d + n; events = x })) (shares_hold all (class_in daytime night l) (length daytime)))
 
   near : (s x : ℕ) → x ≤ s → behind s x ≡ cond (fits all (d + n) x) (how_many (passes_by all daytime night (s - x)) lists) 0
   unfolding behind
@@ -117,7 +117,7 @@ module _ (all : Count) (d n : ℕ) (daytime night : List ℕ) (lists : List (Lis
 -- those of all lists that pass are as many as the ways
 counted_by : (all : Count) (most : ℕ) (daytime night : List ℕ) → length daytime ≡ length night → (s : ℕ) → s ≤ most
     → how_many (passes_by all daytime night s) (lists_of most (length daytime)) ≡ ways all (both_periods daytime night) s
-unfolding lists_of ways with_class both_periods on_each_class sum_of passing behind
+unfolding lists_of ways with_class both_periods shares_hold on_each_class sum_of passing behind
 counted_by all most [] night e zero h = refl
 counted_by all most [] night e (suc s) h = rw (eqb-zero-suc, eqb-suc-zero)
 counted_by all most (d ∷ daytime) [] e s h = absurd (omega arith)

@@ -5,7 +5,7 @@ use mathlib.Core.HLevel.{⊥_prop}
 use mathlib.Core.Logic.Or
 use mathlib.Core.List.{List, [], ◌∷◌, ◌++◌, map, Mem, Mem-prop, Nodup, not-mem-nil, eq-or-mem_of_mem-cons, mem-cons_self, mem-cons_of_mem, mem-cast, mem-append_left, mem-append_right, mem-map_of_mem, Nodup-nil, Nodup-cons, Nodup-append}
 use mathlib.Mathlib.Data.List.Nodup.{Nodup-singleton, Nodup-map_iff}
-use Prim.Native.Nat.{ℕ, zero, suc, ◌+◌, ◌≤◌, ◌<◌}
+use Prim.Native.Nat.{ℕ, zero, suc, ◌≤◌, ◌<◌}
 use native.Mathlib.Omega.{arith}
 use lib.Dec.{leb, eqb}
 use lib.ListN.{length, get_or, drop}
@@ -13,8 +13,8 @@ use borrow.Author.Tests.{leb-true, leb-false, le-leb, eqb-true, eqb-false, eq-eq
 use Rattle.quantity.specs.Lists.{Each}
 use Rattle.quantity.proofs.Tests.{test, both}
 use Rattle.ledger.specs.Book.{sum_of}
-use Rattle.method.specs.Method.{on_each_class, share_holds, shares_hold}
-use Rattle.method.proofs.Each.{each_known, each_shown}
+use Rattle.method.specs.Method.{shares_hold, on_each_class}
+use Rattle.method.proofs.Each.{each_known, each_shown, shares_known, shares_shown}
 use Rattle.method.proofs.Shares.{ShareHolds, share_known, share_shown}
 use Rattle.mixes.specs.Mix.{book_count, class_in, is_within_book, passes, headed, lists_of, passing, mixes_of}
 use Rattle.mixes.specs.Laws.{IsMix, EachOnceLaw}
@@ -144,7 +144,7 @@ module _ (daytime night : List ℕ) (N' : ℕ) (mix : List ℕ) where
       → ShareHolds (book_count daytime night N') (class_in daytime night mix k)
   share k h t =
       share_known (book_count daytime night N') (class_in daytime night mix k)
-      (each_known (share_holds (book_count daytime night N')) (class_in daytime night mix) (length daytime) t k h)
+      (shares_known (book_count daytime night N') (class_in daytime night mix) (length daytime) t k h)
 
   pub mix_known : length mix ≡ length daytime → passes daytime night N' mix ≡ true → IsMix daytime night N' mix
   mix_known e t =
@@ -163,7 +163,7 @@ module _ (daytime night : List ℕ) (N' : ℕ) (mix : List ℕ) where
       rw (
         eq-eqb (sum_of mix) N' i.adds_up,
         each_shown is_within_book (class_in daytime night mix) (length daytime) (λ k h. le-leb _ _ (i.within_book k h)),
-        each_shown (share_holds (book_count daytime night N')) (class_in daytime night mix) (length daytime)
+        shares_shown (book_count daytime night N') (class_in daytime night mix) (length daytime)
             (λ k h. share_shown (book_count daytime night N') (class_in daytime night mix k) (record { measured = i.measured k h; near = i.shares k h })),
       )
 

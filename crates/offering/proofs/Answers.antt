@@ -38,30 +38,30 @@ use Rattle.offering.specs.Entering.{Admissible}
 
 -- what holds of an offer that no rule refuses
 module _ (day : Day) (r : Recording) (s : List ℕ) (h : first_of (day_checks day (record { recording = r; samples = s })) ≡ 0) where
-  rules : Pass (day_checks day (record { recording = r; samples = s }))
-  rules = pass (day_checks day (record { recording = r; samples = s })) (search rules) h
+  passed : Pass (day_checks day (record { recording = r; samples = s }))
+  passed = pass (day_checks day (record { recording = r; samples = s })) (search rules) h
 
   short : length s ≤ longest_of_all
-  short = short_enough day.settings.rate (length s) rules.0
+  short = short_enough day.settings.rate (length s) passed.0
 
   window : clocks.Inside day.settings.rate r.start.0 (event_of s).peak (length s)
-  window = clocks.inside day.settings.rate r.start.0 (event_of s).peak (length s) rules.1.0
+  window = clocks.inside day.settings.rate r.start.0 (event_of s).peak (length s) passed.1.0
 
   pub admissible : Admissible day r (event_of s)
   admissible =
       let w = in_window s in
       record {
-        class = leb-false _ _ (neither (leb day.classes r.class) (leb most_classes r.class) rules.1.1.0).1;
+        class = leb-false _ _ (neither (leb day.classes r.class) (leb most_classes r.class) passed.1.1.0).1;
         peak = omega (arith, w, short);
         in_day = (window.peak_from, window.peak_before);
         end = omega (arith, w, window.ends, rate_most day.settings.rate);
-        left = leb-false _ _ rules.1.1.1.1.1.1.1.1.1.0;
+        left = leb-false _ _ passed.1.1.1.1.1.1.1.1.1.0;
       }
 
   -- its stretch lies in its window, with no sample above the limit
   pub inside : Inside s (event_of s).stretch.first (event_of s).stretch.end
   inside =
-      let high = (neither (any_above highest_sample s) (ltb highest_sample r.background.0) rules.1.1.1.0).0 in
+      let high = (neither (any_above highest_sample s) (ltb highest_sample r.background.0) passed.1.1.1.0).0 in
       let top = ltb-false highest_sample (highest s) (rw any_above_lem at high) in
       let w = in_window s in
       record { window = record { short = short; low = top }; begins = w.first; ends = w.end }

@@ -29,5 +29,5 @@ Handed times i = ticks_of (to_z w32 (of_z w32 (get_or times i (pos 0)))) ≡ get
 
 pub handed : (times : List ℤ) (i : ℕ) → i < length (instants times) → mag (get_or times i (pos 0)) < 2147483648 → Handed times i
 handed [] i there fits = absurd (omega arith)
-handed (time ∷ times) zero there fits = ap ticks_of (to_z-of_z {z = time} (sfits_of fits))
+handed (time ∷ times) zero there fits = ap ticks_of (to_z-of_z {w = w32} {z = time} (sfits_of fits))
 handed (time ∷ times) (suc i) there fits = handed times i (omega arith) fits

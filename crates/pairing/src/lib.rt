@@ -94,7 +94,7 @@ fn pair_all(
 ) -> u16
     requires fit { (unfit (instants movements.now) movement_marks.old ≡ false) × (unfit (instants peaks.now) peak_marks.old ≡ false) }
     requires clear { (movement_marks.old ≡ replicate (length movement_marks.old) 0) × (peak_marks.old ≡ replicate (length peak_marks.old) 0) }
-    ensures { Largest (instants movements.entry.now) (instants peaks.now) tolerance
+    ensures { Largest (instants movements.now) (instants peaks.now) tolerance
         (record { movements = movement_marks.new; peaks = peak_marks.new })
         result }
 {
@@ -130,7 +130,7 @@ pub fn pair_movements(
     movement_marks: &mut [u16],
     peak_marks: &mut [u16],
 ) -> PairingAnswer
-    ensures { Answered (instants movements.entry.now) (instants peaks.now) tolerance
+    ensures { Answered (instants movements.now) (instants peaks.now) tolerance
         (record { movements = movement_marks.old; peaks = peak_marks.old })
         (pairing_reading result)
         (record { movements = movement_marks.new; peaks = peak_marks.new }) }

@@ -1,5 +1,5 @@
 -- Times with a sign and instants: each is got back from the other, and what the code computes is the definition.
-use Rattle.std.proofs.Common.{◌≡◌, ℕ, suc, ◌+◌, ◌-◌, ◌%◌, ◌^◌, ◌<◌, ◌≤◌, ltb, ℤ, pos, negsuc, ◌+ℤ◌, ◌-ℤ◌, ap, ◌∙◌, arith, to_z-of_z, w32, w64, SFits, to_z, of_z, ltb-false, ltb-true, le-ltb, lt-ltb}
+use Rattle.std.proofs.Common.{◌≡◌, ℕ, ◌+◌, ◌%◌, ◌^◌, ◌<◌, ltb, ℤ, pos, negsuc, ◌+ℤ◌, ◌-ℤ◌, ap, ◌∙◌, arith, to_z-of_z, w32, w64, SFits, to_z, of_z, ltb-false, ltb-true}
 use mir.Facts.{to_z_pos, sfits_widen}
 use Rattle.quantity.specs.declared.Instant.{Instant}
 use Rattle.quantity.specs.Instants.{midnight, ticks_of, instant_at, instant_of, after_midnight}

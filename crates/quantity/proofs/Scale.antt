@@ -1,5 +1,5 @@
 -- Levels of the scale and raised levels: each is got back from the other, and their order is the same.
-use Rattle.std.proofs.Common.{◌≡◌, ℕ, suc, ◌+◌, ◌-◌, ◌^◌, ◌<◌, ◌≤◌, Bool, true, false, cond, ◌||◌, ltb, ℤ, pos, negsuc, ◌+ℤ◌, ◌≤ℤ◌, ◌<ℤ◌, refl, arith, le→leb, ltb→lt, w32, SFits, ltb-false, ltb-true, le-ltb}
+use Rattle.std.proofs.Common.{◌≡◌, ℕ, suc, ◌+◌, ◌-◌, ◌^◌, ◌<◌, ◌≤◌, Bool, true, false, cond, ltb, ℤ, pos, negsuc, ◌+ℤ◌, ◌≤ℤ◌, ◌<ℤ◌, refl, arith, le→leb, ltb→lt, w32, SFits, ltb-false, ltb-true, le-ltb}
 use lib.Signed.{lt_z}
 use Rattle.quantity.specs.Limits.{highest_day_level}
 use Rattle.quantity.specs.Scale.{depth, raised, lowered, is_under_scale, OnScale, is_level_outside}

@@ -1,23 +1,11 @@
 -- Document 01, 'Day file': the lines that the day program prints, as ASCII bytes.
-use Rattle.std.specs.Prelude.{cond, List, [], ◌∷◌, ◌++◌, ℕ, zero, suc, ◌+◌, ◌/◌, ◌%◌, ltb, ℤ, pos, negsuc}
+use Rattle.std.specs.Prelude.{List, [], ◌∷◌, ◌++◌, ℕ, suc, ℤ, pos, negsuc}
 use Rattle.std.proofs.Math.Option.{Option, some, none}
+use Rattle.decimal.specs.Digits.{decimal}
 use Rattle.quantity.specs.Answers.{Reading, level, below_scale}
 use Rattle.quantity.specs.Rules.{Outcome, refused, given}
 use Rattle.offering.specs.Offer.{Accepted}
 use Rattle.closing.specs.Close.{Closing}
-
--- the digit of a number below ten
-abbrev pub digit : ℕ → ℕ
-digit n = 48 + n
-
--- a number of at most k digits
-unfoldable pub digits_within : ℕ → ℕ → List ℕ
-digits_within zero n = []
-digits_within (suc k) n = cond (ltb n 10) (digit n ∷ []) (digits_within k (n / 10) ++ (digit (n % 10) ∷ []))
-
--- a number in decimal, without leading zeros; numbers of 64 bits have at most twenty digits
-abbrev pub decimal : ℕ → List ℕ
-decimal = digits_within 20
 
 -- the letters A, D, E, F and R, and '-' for below scale, no Lmax, or before the digits of a negative level
 abbrev pub letter_a : List ℕ

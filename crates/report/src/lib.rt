@@ -5,10 +5,10 @@ ghost use Rattle.std.specs.Prelude.{[], ◌∷◌, ◌+◌, ◌≤◌};
 ghost use Rattle.quantity.specs.Answers.{reading, highest_reading, refusal_number};
 ghost use Rattle.offering.specs.Offer.{offer_outcome};
 ghost use Rattle.closing.specs.Close.{closing_reading, close_outcome};
-ghost use Rattle.io.specs.Counts.{IsPrefixLen};
+ghost use Rattle.std.specs.Counts.{IsPrefixLen};
+ghost use Rattle.decimal.specs.Digits.{decimal};
 ghost use Rattle.runs.specs.Put.{Put};
 ghost use Rattle.report.specs.Text.{
-  decimal,
   field,
   spaced,
   signed_text,
@@ -44,7 +44,7 @@ fn put_digits(line: &mut [u8; 64], at: usize, n: u32) -> usize
     ensures size { result ≤ at + 10 }
 {
     let mut digits = [0u8; 20];
-    let count = io::decimal(n as u64, &mut digits);
+    let count = decimal::put_digits(n as u64, &mut digits);
     runs::put_bytes(line, at, &digits[..count])
 }
 

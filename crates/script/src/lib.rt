@@ -1,4 +1,4 @@
-// A script of calls, read from standard input: each line names a call of an entry point and the answer that should come. Every call is made, and
+// A script of calls, read from an input: each line names a call of an entry point and the answer that should come. Every call is made, and
 // what came is compared with what should come.
 //
 //     LABEL: CALL WORDS = ANSWER          a call; answers that are right are separated by '|', and one that is plausible and wrong stands behind ', not'
@@ -10,7 +10,7 @@
 // one first. The numbers lent to mixes, and its count, are 7 before the call; ' beyond' at the end of its answer says that one of the numbers that stay was changed.
 #![tactic(auto)]
 
-ghost use Rattle.std.specs.Prelude.{◌≡◌, ◌≤◌, length};
+ghost use Rattle.std.specs.Prelude.{◌≡◌, ◌≤◌, IfOk, length};
 
 mod angles;
 mod calls;
@@ -20,8 +20,9 @@ mod pairs;
 mod thrusts;
 
 use judging::Progress;
-use libc::STDOUT_FILENO;
 use script_text::words;
+use std::io;
+use std::io::{Read, Write};
 
 // A line is shorter than this: 6016 numbers of five digits and their spaces are 36096 bytes, and longer windows are written with '*'.
 const LONGEST_LINE: usize = 40960;
@@ -37,28 +38,29 @@ struct Line {
     end: usize,
 }
 
-fn text(bytes: &[u8]) {
-    io::write_all(STDOUT_FILENO, bytes);
+fn text<W: Write>(out: &mut W, bytes: &[u8]) -> io::Result<()> {
+    out.write_all(bytes)
 }
 
 // Writes the label of a call, what came, and what should come.
-fn show(label: &[u8], came: &[u8], should: &[u8]) {
-    text(label);
-    text(b":");
-    text(came);
-    text(b", should be");
-    text(should);
-    text(b"\n");
+fn show<W: Write>(out: &mut W, label: &[u8], came: &[u8], should: &[u8]) -> io::Result<()> {
+    text(out, label)?;
+    text(out, b":")?;
+    text(out, came)?;
+    text(out, b", should be")?;
+    text(out, should)?;
+    text(out, b"\n")
 }
 
 // Makes the call of a line whose label ends at a place, and counts it. Writes it where its answer is not right, or where every call is shown.
-fn run_call(
+fn run_call<W: Write>(
+    out: &mut W,
     day: &mut [u32; 320],
     progress: Progress,
     line: &[u8],
     colon: usize,
     shows_all: bool,
-) -> Progress {
+) -> io::Result<Progress> {
     let equals = judging::place_of(line, colon, b'=');
     let call = words::part(line, std::num::wrapping_add_usize(colon, 2), equals);
     let should = words::part(line, words::behind(equals, line.len()), line.len());
@@ -67,26 +69,32 @@ fn run_call(
     let came = words::part(&bytes, 0, text.count);
     let after = judging::with_call(progress, came, should);
     if shows_all {
-        show(words::part(line, 0, colon), came, should);
-        return after;
+        show(out, words::part(line, 0, colon), came, should)?;
+        return Ok(after);
     }
     if after.different != progress.different {
-        show(words::part(line, 0, colon), came, should);
+        show(out, words::part(line, 0, colon), came, should)?;
     }
-    after
+    Ok(after)
 }
 
 // One line: a call, or a heading.
-fn run_line(day: &mut [u32; 320], progress: Progress, line: &[u8], shows_all: bool) -> Progress {
+fn run_line<W: Write>(
+    out: &mut W,
+    day: &mut [u32; 320],
+    progress: Progress,
+    line: &[u8],
+    shows_all: bool,
+) -> io::Result<Progress> {
     let colon = judging::place_of(line, 0, b':');
     if colon < line.len() {
-        return run_call(day, progress, line, colon, shows_all);
+        return run_call(out, day, progress, line, colon, shows_all);
     }
     if shows_all {
-        text(line);
-        text(b"\n");
+        text(out, line)?;
+        text(out, b"\n")?;
     }
-    progress
+    Ok(progress)
 }
 
 // The line that begins at a place.
@@ -101,22 +109,28 @@ fn line_at(held: &[u8], from: usize, end: usize) -> Line
 }
 
 // The line behind another. The buffer is filled again where less than a line is left.
-fn line_behind(held: &mut [u8], line: Line) -> Line
+fn line_behind<R: Read>(input: &mut R, held: &mut [u8], line: Line) -> io::Result<Line>
     requires { line.end ≤ length held.old }
-    ensures end_in_bounds { result.end ≤ length held.new }
+    ensures end_in_bounds { IfOk result (λ r. r.end ≤ length held.new) }
     ensures whole { length held.new ≡ length held.old }
 {
     let end = line.end;
     let from = words::behind(line.to, end);
     if end - from < LONGEST_LINE {
-        let filled = stream::refill(held, from, end);
-        return line_at(held, 0, filled);
+        let filled = stream::refill(input, held, from, end)?;
+        return Ok(line_at(held, 0, filled));
     }
-    line_at(held, from, end)
+    Ok(line_at(held, from, end))
 }
 
-// Runs every line of standard input, read through a buffer.
-fn run_lines(held: &mut [u8], day: &mut [u32; 320], shows_all: bool) -> Progress {
+// Runs every line of the input, read through a buffer.
+fn run_lines<R: Read, W: Write>(
+    input: &mut R,
+    out: &mut W,
+    held: &mut [u8],
+    day: &mut [u32; 320],
+    shows_all: bool,
+) -> io::Result<Progress> {
     let mut progress = Progress {
         calls: 0,
         different: 0,
@@ -128,34 +142,32 @@ fn run_lines(held: &mut [u8], day: &mut [u32; 320], shows_all: bool) -> Progress
     };
     let mut lines = 0;
     while lines < MOST_LINES {
-        let next = line_behind(held, line);
+        let next = line_behind(input, held, line)?;
         line = next;
         if line.from == line.end {
             break;
         }
         let after = run_line(
+            out,
             day,
             progress,
             words::part(held, line.from, line.to),
             shows_all,
-        );
+        )?;
         progress = after;
         lines += 1;
     }
-    progress
+    Ok(progress)
 }
 
-fn show_counts(calls: u32, different: u32) {
-    io::print_decimal(STDOUT_FILENO, calls as u64);
-    text(b" calls, ");
-    io::print_decimal(STDOUT_FILENO, different as u64);
-    text(b" different\n");
+fn show_counts<W: Write>(out: &mut W, calls: u32, different: u32) -> io::Result<()> {
+    writeln!(out, "{calls} calls, {different} different")
 }
 
-// Runs the script on standard input. Writes every call, or those alone whose answer is not right, and last the number of calls and of differences.
-pub fn run(shows_all: bool) {
-    let mut held = io::large_buffer();
+// Runs the script on the input. Writes every call, or those alone whose answer is not right, and last the number of calls and of differences.
+pub fn run<R: Read, W: Write>(input: &mut R, out: &mut W, shows_all: bool) -> io::Result<()> {
+    let mut held = [0u8; 65536];
     let mut day = [0u32; 320];
-    let progress = run_lines(&mut held, &mut day, shows_all);
-    show_counts(progress.calls, progress.different);
+    let progress = run_lines(input, out, &mut held, &mut day, shows_all)?;
+    show_counts(out, progress.calls, progress.different)
 }

@@ -43,7 +43,7 @@ pub fn with_bytes(text: Text, bytes: &[u8]) -> Text {
 
 fn with_digits(text: Text, n: u64) -> Text {
     let mut digits = [0u8; 20];
-    let count = io::decimal(n, &mut digits);
+    let count = decimal::put_digits(n, &mut digits);
     with_bytes(text, &digits[..count])
 }
 

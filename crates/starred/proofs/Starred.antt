@@ -9,7 +9,7 @@ use Rattle.power.proofs.Scale.{m_is}
 use Rattle.limbs.specs.Value.{value, limbs_of}
 use Rattle.decades.specs.Decades.{energies}
 use Rattle.ledger.specs.Book.{sum_of}
-use Rattle.method.specs.Method.{on_each_class}
+use Rattle.method.specs.Method.{shares_hold}
 use Rattle.mean.specs.Mean.{mean_of, sum_of_powers, any_outside}
 use Rattle.starred.specs.Starred.{starred, AllHold, closes}
 use Rattle.starred.proofs.Levels.{e_tens, read}
@@ -26,7 +26,7 @@ a and b = (a, b)
 
 -- limbs are opened when they are numbers: before that, each event would make the sum four times as long
 pub shown : AllHold starred
-unfolding energies first_of sum_of on_each_class mean_of sum_of_powers any_outside
+unfolding energies first_of sum_of shares_hold mean_of sum_of_powers any_outside
 shown =
     m_is _ _ (lit≤ tt) (lit< tt)
     and (rw (e_tens 8) (read _ _ _ _ tt))

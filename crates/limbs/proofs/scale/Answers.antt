@@ -1,21 +1,20 @@
 -- `limbs::scale` meets its contract: a pass with a carry, whose limb at i adds k times what it was.
-use Prim.Native.Nat.{ℕ, ◌+◌, ◌*◌, ◌-◌, ◌^◌}
+use Prim.Native.Nat.{ℕ, ◌+◌, ◌*◌, ◌^◌}
 use mathlib.Core.Path.{refl, ap, ◌∙◌}
 use native.Mathlib.Nat.{add-mul, mul_right_comm}
 use native.Mathlib.Omega.{arith}
-use borrow.Author.Rules.{rules}
-use lib.ListN.{length, take, get_or}
+use lib.ListN.{get_or}
 use lib.Seq.{take-length}
-use Rattle.limbs.specs.Value.{base, value}
+use Rattle.limbs.specs.Value.{base}
 use Rattle.limbs.proofs.Value.{value_none, value_take}
-use Rattle.limbs.proofs.Carry.{Carried, carried_none, carried_at, carried_more, carried_all}
+use Rattle.limbs.proofs.Carry.{carried_none, carried_at, carried_more, carried_all}
 use Rattle.limbs.proofs.scale.Goals as goal
 
 pub loop-i-init : goal.loop-i-init
 loop-i-init c = carried_none _ c.args.a.now (λ j. (c.type_inv.a j).fits) (rw value_none (omega arith))
 
 pub loop-i-preserved : goal.loop-i-preserved
-loop-i-preserved c =    let l = c.loop-i in
+loop-i-preserved c = let l = c.loop-i in
     let a₀ = c.args.a.now in
     let k = c.args.k in
     let t = c.limb_product-t in
@@ -23,7 +22,6 @@ loop-i-preserved c =    let l = c.loop-i in
     (t.ensures ∙ ap (λ (n : ℕ). n * k + l.carry) (carried_at l.invariant))
     (rw (value_take a₀ l.i, add-mul, mul_right_comm (get_or a₀ l.i 0) k (base ^ l.i)) refl)
 
--- of the whole returns: clauses ['whole', 'digits']
 pub returns-clause-digits : goal.returns-clause-digits
-returns-clause-digits c =    let a₀ = c.args.a.now in
-    rw (take-length a₀) at (carried_all c.loop-i.invariant (omega arith))
+returns-clause-digits c = let a₀ = c.args.a.now in
+    (rw (take-length a₀) at (carried_all c.loop-i.invariant (omega arith))).1

@@ -1,0 +1,11 @@
+-- What the loop of `day_words::classes_at` keeps, and why it ends.
+use Prim.Native.Nat.{◌-◌}
+use Rattle.runs.proofs.Filling.{Filling}
+use Rattle.day_words.specs.Words.{classes_from}
+use Rattle.day_words.proofs.classes_at.Given as goal
+
+abbrev pub invariant-loop-i : goal.invariant-loop-i
+invariant-loop-i l = Filling (classes_from l.words l.at 16) l.levels l.i
+
+abbrev pub decreases-loop-i : goal.decreases-loop-i
+decreases-loop-i l = 16 - l.i

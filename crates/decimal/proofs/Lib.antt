@@ -1,0 +1,2 @@
+-- The laws of a number in decimal.
+pub mod Decimal

@@ -1,0 +1,2 @@
+-- What the contracts of `decimal` cite: a number in decimal.
+pub mod Digits
