@@ -1,0 +1,2 @@
+-- The law that the proofs of `day` share.
+pub mod Turning
