@@ -1,2 +1,3 @@
--- The law that the proofs of `day` share.
+-- The laws that the proofs of `day` share.
 pub mod Turning
+pub mod Printing

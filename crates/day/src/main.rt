@@ -1,16 +1,18 @@
 // The day program: reads a day file from standard input, and writes a line for each event and a last one for the day or the fault.
 //
-// What is assumed of standard input and output: reading hands over the bytes of the input in their order, none left out and none twice, and gives
-// none only where the input has ended; `write_all` writes what it is handed, behind what was written before. Then each turn of the loop
-// below is a step of a run over the input, as `steps` has it: what is held from `from` up to `to` is what the bytes that are not used up begin
-// with, and each line is written once, in its turn.
+// `run` works on any reader and writer: of an input whose bytes are known, it writes the report of the file that they are. Of standard input and output
+// no contract says which bytes come and go, so there it is assumed: reading hands over the bytes of the input in their order, none left out and none
+// twice, and gives none only where the input has ended; `write_all` writes what it is handed, behind what was written before.
 #![tactic(auto)]
 
-ghost use Rattle.std.specs.Prelude.{◌≡◌, ◌≤◌, IfOk, length};
+ghost use Rattle.std.specs.Prelude.{◌≡◌, ◌<◌, ◌≤◌, IfOk, IfSome, OnOk, length};
+ghost use Rattle.std.specs.Io.KnownBytes.{Appends, IsAtEnd};
 ghost use Rattle.power.specs.Table.{IsTable};
 ghost use Rattle.day_file.specs.Window.{longest_record};
-ghost use Rattle.steps.specs.Machine.{is_done};
-ghost use Rattle.day.specs.Turn.{Turned};
+ghost use Rattle.stream.specs.Part.{part, SameRun};
+ghost use Rattle.steps.specs.Machine.{coming_reading, is_done, line_for};
+ghost use Rattle.steps.specs.Report.{report_of};
+ghost use Rattle.day.specs.Turn.{Turned, unused};
 
 use std::io;
 use std::io::{Read, Write};
@@ -37,6 +39,10 @@ fn take_turn<R: Read>(
     requires { IsTable table.now × (longest_record ≤ length held.old) }
     ensures turned { IfOk result (λ r. Turned held.old last held.new r) }
     ensures whole { length held.new ≡ length held.old }
+    ensures in_order { IfOk result
+        (λ r. SameRun (unused last held.old) (R.remaining input.old) (part held.new r.from r.end) (R.remaining input.new)) }
+    ensures input_ended { IfOk result (λ r. (last.end < length held.old → IsAtEnd (R.remaining input.old))
+        → r.end < length held.new → IsAtEnd (R.remaining input.new)) }
 {
     let reader = last.reader;
     let at = last.at;
@@ -65,13 +71,16 @@ fn is_over(turn: Turn) -> bool
 }
 
 // Writes the line of what came, if there is one.
-fn write_line<W: Write>(out: &mut W, came: Came) -> io::Result<()> {
+fn write_line<W: Write>(out: &mut W, came: Came) -> io::Result<()>
+    ensures { OnOk result (Appends (W.contents out.old) (W.contents out.new) (line_for (coming_reading came))) }
+{
     let mut line = [0u8; 64];
     let count = steps::put_line(&mut line, came);
     out.write_all(&line[..count])
 }
 
-// Takes turns until the last line is written. At first nothing is held, at the end of the buffer.
+// Takes turns until the last line is written. At first nothing is held, at the end of the buffer. What is printed of an input whose bytes are known is the
+// report of the file that they are.
 fn run<R: Read, W: Write>(
     input: &mut R,
     out: &mut W,
@@ -80,6 +89,7 @@ fn run<R: Read, W: Write>(
     held: &mut [u8],
 ) -> io::Result<()>
     requires { IsTable table.now × (longest_record ≤ length held.old) }
+    ensures { OnOk result (IfSome (R.remaining input.old) (λ file. Appends (W.contents out.old) (W.contents out.new) (report_of file))) }
 {
     let size = held.len();
     let reader = steps::fresh();

@@ -114,8 +114,10 @@ pub fn hold_enough<R: Read>(
     ensures whole { length held.new ≡ length held.old }
     ensures ended { IfOk result (λ r. r.ended ≡ ltb r.end (length held.new)) }
     ensures enough { IfOk result (λ r. r.ended ≡ false → min need (length held.new) ≤ r.end - r.at) }
-    ensures in_order { IfOk result (λ r. SameRun (part held.old at end) (R.remaining input.old) (part held.new r.at r.end) (R.remaining input.new)) }
-    ensures input_ended { IfOk result (λ r. (end < length held.old → IsAtEnd (R.remaining input.old)) → r.end < length held.new → IsAtEnd (R.remaining input.new)) }
+    ensures in_order { IfOk result
+        (λ r. SameRun (part held.old at end) (R.remaining input.old) (part held.new r.at r.end) (R.remaining input.new)) }
+    ensures input_ended { IfOk result (λ r. (end < length held.old → IsAtEnd (R.remaining input.old))
+        → r.end < length held.new → IsAtEnd (R.remaining input.new)) }
 {
     let last = least(end, held.len());
     let first = least(at, last);
