@@ -5,7 +5,7 @@
 // twice, and gives none only where the input has ended; `write_all` writes what it is handed, behind what was written before.
 #![tactic(auto)]
 
-ghost use Rattle.std.specs.Prelude.{◌≡◌, ◌<◌, ◌≤◌, IfOk, IfSome, OnOk, length};
+ghost use Rattle.std.specs.Prelude.{◌≡◌, ◌<◌, ◌≤◌, IfOk, IfSome, OnOk, OnErr, length, take};
 ghost use Rattle.std.specs.Io.KnownBytes.{Appends, IsAtEnd};
 ghost use Rattle.power.specs.Table.{IsTable};
 ghost use Rattle.day_file.specs.Window.{longest_record};
@@ -28,7 +28,7 @@ struct Turn {
     came: Came,
 }
 
-// Sees that enough is held, and makes a step on it.
+// Sees that enough is held, and makes a step on it. After a failed read the bytes that are not used up stand at the beginning.
 fn take_turn<R: Read>(
     input: &mut R,
     table: &[u64; 1000],
@@ -38,6 +38,7 @@ fn take_turn<R: Read>(
 ) -> io::Result<Turn>
     requires { IsTable table.now × (longest_record ≤ length held.old) }
     ensures turned { IfOk result (λ r. Turned held.old last held.new r) }
+    ensures failed { OnErr result (take (length (unused last held.old)) held.new ≡ unused last held.old) }
     ensures whole { length held.new ≡ length held.old }
     ensures in_order { IfOk result
         (λ r. SameRun (unused last held.old) (R.remaining input.old) (part held.new r.from r.end) (R.remaining input.new)) }
