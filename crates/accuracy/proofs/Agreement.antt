@@ -1,4 +1,7 @@
 -- The relation between tally and day: the day is the one that the tally gives, and the tally keeps its bounds. A fresh day has it.
+use Rattle.std.specs.Prelude as std
+use Rattle.std.specs.Prelude.{None}
+use Rattle.quantity.specs.declared.Level.{Level}
 use mathlib.Core.Path.{◌≡◌, refl, sym}
 use mathlib.Core.Bool.{Bool, true, false, not, ◌||◌}
 use mathlib.Core.List.{List, [], ◌∷◌, map}
@@ -14,8 +17,6 @@ use Rattle.quantity.specs.Lists.{Each}
 use Rattle.quantity.specs.Rules.{first_of}
 use Rattle.quantity.specs.declared.Bound.{Bound}
 use Rattle.quantity.specs.declared.Bound.TheVariants.{Lowest, Highest}
-use Rattle.quantity.specs.declared.HighestLevel.{HighestLevel}
-use Rattle.quantity.specs.declared.HighestLevel.TheVariants as highests
 use Rattle.quantity.proofs.Refusing.{pass}
 use Rattle.quantity.proofs.Lists.{zero_at}
 use Rattle.power.specs.Power.{e}
@@ -28,7 +29,6 @@ use Rattle.ledger.specs.Day.{none_by_class, Opening, open_rules, opened_day, per
 use Rattle.offering.specs.Offer.{raised, raised_in_class}
 use Rattle.ledger.specs.declared.Cell.{Cell}
 use Rattle.ledger.specs.declared.Period.{Period}
-use Rattle.ledger.specs.declared.ClassHighest.{ClassHighest}
 use Rattle.ledger.specs.declared.Day.{Day}
 use Rattle.accuracy.specs.Tally.{Held, Tally, book_of, started, held_at}
 use Rattle.accuracy.specs.Laws.{Apart, WithinReach, period_energy}
@@ -50,11 +50,11 @@ period_of_tally t p =
     let hs = t.stretches in
     period_of_parts (t.book p) (t.count p) (cells_of_stretches t.settings.rate p hs) (λ b. sum_of_stretches b p hs)
 
-abbrev pub highest_of_stretches : List Held → HighestLevel
-highest_of_stretches [] = highests.Nothing
+abbrev pub highest_of_stretches : List Held → std.Option Level
+highest_of_stretches [] = None
 highest_of_stretches (h ∷ hs) = raised (highest_of_stretches hs) (record { 0 = highest h.levels })
 
-abbrev pub classes_of_stretches : List Held → List ClassHighest
+abbrev pub classes_of_stretches : List Held → List (std.Option Level)
 classes_of_stretches [] = none_by_class
 classes_of_stretches (h ∷ hs) = raised_in_class (classes_of_stretches hs) h.class (record { 0 = highest h.levels })
 

@@ -1,4 +1,7 @@
 -- The highest level that a day keeps, and that of each class, are those of the stretches that the tally holds.
+use Rattle.std.specs.Prelude as std
+use Rattle.std.specs.Prelude.{Some, None}
+use Rattle.quantity.specs.declared.Level.{Level}
 use mathlib.Core.Path.{◌≡◌, refl, sym, ap, ◌∙◌}
 use mathlib.Core.List.{List, [], ◌∷◌}
 use mathlib.Core.Option.{Option, some, none}
@@ -9,23 +12,20 @@ use lib.Dec.{ltb, eqb}
 use lib.ListN.{length, get_or, set, length-set}
 use lib.Seq.{get_or-set_same, get_or-set_other}
 use Rattle.quantity.specs.Answers.{highest_reading}
-use Rattle.quantity.specs.declared.HighestLevel.{HighestLevel}
-use Rattle.quantity.specs.declared.HighestLevel.TheVariants as highests
 use Rattle.quantity.proofs.Tests.{test}
 use Rattle.quantity.proofs.Lists.{same_at}
 use Rattle.event.specs.Window.{highest}
 use Rattle.ledger.specs.Book.{most_classes}
 use Rattle.ledger.specs.Day.{levels_by_class}
 use Rattle.offering.specs.Offer.{raised, raised_in_class}
-use Rattle.ledger.specs.declared.ClassHighest.{ClassHighest}
 use Rattle.accuracy.specs.Tally.{Held, Tally}
 use Rattle.accuracy.specs.Laws.{larger, highest_held, of_class, ByClass, largest, Highest}
 use Rattle.accuracy.proofs.Agreement.{highest_of_stretches, classes_of_stretches, day_of_tally, OfFirst, Bounded}
 
 -- a level is raised to the larger of two
-raised_reading : (top : HighestLevel) (c : ℕ) → highest_reading (raised top (record { 0 = c })) ≡ larger (highest_reading top) (some c)
-raised_reading highests.Nothing c = refl
-raised_reading (highests.At l) c =
+raised_reading : (top : std.Option Level) (c : ℕ) → highest_reading (raised top (record { 0 = c })) ≡ larger (highest_reading top) (some c)
+raised_reading None c = refl
+raised_reading (Some l) c =
     test (ltb l.0 c)
     (λ t. rw t (ap some (omega (arith, ltb-true l.0 c t))))
     (λ f. rw f (ap some (omega (arith, ltb-false l.0 c f))))
@@ -40,10 +40,10 @@ highest_of_stretches_lem (h ∷ hs) =
 abbrev raised_at : List (Option ℕ) → ℕ → ℕ → List (Option ℕ)
 raised_at levels k c = set levels k (larger (get_or levels k none) (some c))
 
-raised_levels : (classes : List ClassHighest) (k c : ℕ) → levels_by_class (raised_in_class classes k (record { 0 = c })) ≡ raised_at (levels_by_class classes) k c
+raised_levels : (classes : List (std.Option Level)) (k c : ℕ) → levels_by_class (raised_in_class classes k (record { 0 = c })) ≡ raised_at (levels_by_class classes) k c
 raised_levels [] k c = refl
-raised_levels (x ∷ xs) zero c = ap (λ (l : Option ℕ). l ∷ levels_by_class xs) (raised_reading x.level c)
-raised_levels (x ∷ xs) (suc k) c = ap (λ (ls : List (Option ℕ)). highest_reading x.level ∷ ls) (raised_levels xs k c)
+raised_levels (x ∷ xs) zero c = ap (λ (l : Option ℕ). l ∷ levels_by_class xs) (raised_reading x c)
+raised_levels (x ∷ xs) (suc k) c = ap (λ (ls : List (Option ℕ)). highest_reading x ∷ ls) (raised_levels xs k c)
 
 -- the levels of the classes, as a day keeps them
 abbrev class_levels : List Held → List (Option ℕ)

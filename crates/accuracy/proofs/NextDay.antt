@@ -1,12 +1,12 @@
 -- A peak lies in one day alone. Days in a row: a stretch of a later day begins where those of the days before have ended.
+use Rattle.std.specs.Prelude as std
+use Rattle.std.specs.Prelude.{Some, None}
 use mathlib.Core.Path.{◌≡◌, refl, ap}
 use mathlib.Core.List.{List, [], ◌∷◌, ◌++◌, map}
 use Prim.Native.Nat.{ℕ, zero, suc, ◌+◌, ◌-◌, ◌≤◌, zero-le}
 use native.Mathlib.Omega.{arith}
 use Rattle.quantity.specs.Lists.{Each}
 use Rattle.quantity.specs.Rules.{first_of, outcome, follow}
-use Rattle.quantity.specs.declared.HighestLevel.{HighestLevel}
-use Rattle.quantity.specs.declared.HighestLevel.TheVariants as highests
 use Rattle.quantity.specs.declared.Level.{Level}
 use Rattle.quantity.proofs.Lists.{each_map}
 use Rattle.clock.specs.Clock.{samples_a_second, day_ticks, earliest_start, latest_end}
@@ -31,9 +31,9 @@ one_day_law rate o unbooked unbooked_before end end_before used used_before h g 
     omega arith
 
 -- a highest level that was raised is there
-counted_end : (highest : HighestLevel) (l : Level) (rate : Rate) (end : ℕ) → end_counted (raised highest l) rate end ≡ end - day_ticks rate
-counted_end highests.Nothing l rate end = refl
-counted_end (highests.At h) l rate end = refl
+counted_end : (highest : std.Option Level) (l : Level) (rate : Rate) (end : ℕ) → end_counted (raised highest l) rate end ≡ end - day_ticks rate
+counted_end None l rate end = refl
+counted_end (Some h) l rate end = refl
 
 given_end : (rate : Rate) (end : ℕ) (hs : List Held) → EndsWith end hs → Apart end hs → WithinReach rate hs
     → IsEndAfter rate hs (end_counted (highest_of_stretches hs) rate end)

@@ -1,4 +1,6 @@
 -- An offer: day and tally refuse it by the same number, or both take it in and agree again; and what is demanded of the answer.
+use Rattle.std.specs.Prelude as std
+use Rattle.quantity.specs.declared.Level.{Level}
 use mathlib.Core.Path.{◌≡◌, refl, sym, ap, ◌∙◌}
 use mathlib.Core.Bool.{Bool, true, false, cond}
 use mathlib.Core.List.{List, ◌∷◌}
@@ -11,7 +13,6 @@ use lib.ListN.{length, get_or, set, length-set}
 use Rattle.quantity.specs.Rules.{Rule, first_of, outcome, follow}
 use Rattle.quantity.specs.declared.Bound.{Bound}
 use Rattle.quantity.specs.declared.Bound.TheVariants.{Lowest, Highest}
-use Rattle.quantity.specs.declared.HighestLevel.{HighestLevel}
 use Rattle.power.specs.Power.{e}
 use Rattle.clock.specs.Clock.{hour_of}
 use Rattle.clock.specs.declared.Settings.{Settings}
@@ -26,7 +27,6 @@ use Rattle.ledger.specs.Day.{period_of, with_period}
 use Rattle.admission.specs.Checks.{Offering, day_checks, used_up}
 use Rattle.offering.specs.Offer.{offered_by, offered, cells_with, sum_with, with_event, entered, raised, raised_in_class}
 use Rattle.ledger.specs.declared.Period.{Period}
-use Rattle.ledger.specs.declared.ClassHighest.{ClassHighest}
 use Rattle.ledger.specs.declared.Day.{Day}
 use Rattle.accuracy.specs.Tally.{offering, Held, Tally, tallied, joined, period_in, count_raised, same_as, tally_checks}
 use Rattle.accuracy.specs.Demand.{OfferDemanded}
@@ -50,7 +50,7 @@ module _ {t : Tally} (b : Bounded t) where
       rw (first_limit (length (t.book true)) most_classes class b.most, used_same (period_in t.settings o) class)
 
 -- days that differ in their periods and their highest levels
-day_same : {settings : Settings} {classes end : ℕ} {d d' n n' : Period} {h h' : HighestLevel} {l l' : List ClassHighest}
+day_same : {settings : Settings} {classes end : ℕ} {d d' n n' : Period} {h h' : std.Option Level} {l l' : List (std.Option Level)}
     → d ≡ d' → n ≡ n' → h ≡ h' → l ≡ l'
     → ◌≡◌ {A = Day}
     (record { settings = settings; classes = classes; daytime = d; night = n; end = record { 0 = end }; highest = h; highest_by_class = l })

@@ -1,6 +1,7 @@
 -- Levels of 0 and above are those of before: 50 dB are five whole decades, so the power of a level that is raised by 5000 is 100000 times its power.
 use mathlib.Core.Path.{◌≡◌, refl, sym, ap, ap₂, ◌∙◌}
 use mathlib.Core.Bool.{◌||◌}
+use Rattle.std.proofs.Math.Bool.{or-false}
 use mathlib.Core.List.{List, [], ◌∷◌, map}
 use mathlib.Core.Option.{Option, some, none}
 use Prim.Native.Nat.{ℕ, zero, suc, ◌+◌, ◌*◌, ◌≤◌, ◌<◌}
@@ -36,7 +37,6 @@ use Rattle.closing.specs.declared.Formula.{Formula}
 use Rattle.ledger.specs.Day.{energy_in}
 use Rattle.closing.proofs.Answers.{divisor_positive}
 use Rattle.mean.specs.Mean.{is_count_wrong, any_outside, sum_of_powers, mean_rules, mean_of}
-use Rattle.mean.proofs.Totals.{or_none}
 use Rattle.accuracy.specs.QuietFields.{level_before, exposure_before, ldn_before, sum_before, any_too_high, mean_before, same_today, Kept, KeptOutcome, level_in, QuietFieldsLaw}
 
 -- the power of a raised level
@@ -108,7 +108,7 @@ kept_sum (none ∷ days) = omega (arith, kept_sum days)
 kept_outside : (days : List (Option ℕ)) → any_outside (map same_today days) ≡ any_too_high days
 unfolding any_outside
 kept_outside [] = refl
-kept_outside (some r ∷ days) = ap₂ ◌||◌ (sym (or_none (ltb highest_day_level r))) (kept_outside days)
+kept_outside (some r ∷ days) = ap₂ ◌||◌ (or-false (ltb highest_day_level r)) (kept_outside days)
 kept_outside (none ∷ days) = kept_outside days
 
 kept_mean : (fewest most : ℕ) → 0 < fewest → (days : List (Option ℕ)) → KeptOutcome (mean_before fewest most days) (mean_of fewest most (map same_today days))

@@ -1,4 +1,7 @@
 -- Demand 3 through C: what a caller reads is the outcome that the claims of `accuracy` speak of.
+use Rattle.std.specs.Prelude as std
+use Rattle.std.specs.Prelude.{Some, None}
+use Rattle.quantity.specs.declared.Level.{Level}
 use mathlib.Core.Path.{◌≡◌, refl, sym, ap, ap₂, subst, ◌∙◌}
 use mathlib.Core.Bool.{true, false}
 use mathlib.Core.List.{List, [], ◌∷◌, map}
@@ -14,8 +17,6 @@ use Rattle.quantity.specs.Answers.{Reading, reading, highest_reading}
 use Rattle.quantity.specs.Lent.{leaves}
 use Rattle.quantity.specs.Rules.{Outcome, refused, given, first_of, outcome}
 use Rattle.quantity.specs.declared.Bound.TheVariants.{Lowest, Highest}
-use Rattle.quantity.specs.declared.HighestLevel.{HighestLevel}
-use Rattle.quantity.specs.declared.HighestLevel.TheVariants as highests
 use Rattle.quantity.proofs.Outcomes.{refuses}
 use Rattle.quantity.proofs.Refusing.{pass}
 use Rattle.quantity.proofs.Tests.{neither, test}
@@ -25,7 +26,6 @@ use Rattle.ledger.specs.Book.{most_classes, sum_of}
 use Rattle.ledger.specs.Day.{opened_day, levels_by_class}
 use Rattle.admission.specs.Checks.{Offering, day_checks}
 use Rattle.offering.specs.Offer.{Accepted, offered_by, offered}
-use Rattle.ledger.specs.declared.ClassHighest.{ClassHighest}
 use Rattle.ledger.specs.declared.Day.{Day}
 use Rattle.method.specs.Method.{method_one_holds, method_by, counts_of}
 use Rattle.closing.specs.Formula.{formula_by, level_by}
@@ -90,13 +90,13 @@ plain_offer d o = go (first_of (day_checks d o)) refl
     go zero h = told_exposure d.settings.rate o _ _ _ h
     go (suc n) h = omega arith
 
-low_told : (h : HighestLevel) → Low h → ToldHighest (highest_reading h)
-low_told (highests.At l) p = omega arith
-low_told highests.Nothing p = tt
+low_told : (h : std.Option Level) → Low h → ToldHighest (highest_reading h)
+low_told (Some l) p = omega arith
+low_told None p = tt
 
-low_classes : (cs : List ClassHighest) → AllLow cs → class_levels_from (class_numbers (levels_by_class cs)) ≡ levels_by_class cs
+low_classes : (cs : List (std.Option Level)) → AllLow cs → class_levels_from (class_numbers (levels_by_class cs)) ≡ levels_by_class cs
 low_classes [] p = refl
-low_classes (c ∷ cs) p = ap₂ ◌∷◌ (told_highest (highest_reading c.level) (low_told c.level p.0)) (low_classes cs p.1)
+low_classes (c ∷ cs) p = ap₂ ◌∷◌ (told_highest (highest_reading c) (low_told c p.0)) (low_classes cs p.1)
 
 no_classes : class_levels_from (class_numbers (replicate most_classes none)) ≡ replicate most_classes none
 no_classes = refl

@@ -1,4 +1,6 @@
 -- The words hold the day of the list of calls, and give the end and the energies of the hours that it gives.
+use Rattle.std.specs.Prelude as std
+use Rattle.std.specs.Prelude.{Some, None}
 use mathlib.Core.Path.{◌≡◌, refl, ap, ◌∙◌}
 use mathlib.Core.Bool.{Bool, true, false}
 use mathlib.Core.List.{List, [], ◌∷◌, map}
@@ -12,8 +14,6 @@ use Rattle.quantity.specs.Lent.{leaves}
 use Rattle.quantity.specs.Limits.{highest_sample}
 use Rattle.quantity.specs.declared.Bound.{Bound}
 use Rattle.quantity.specs.declared.Bound.TheVariants.{Lowest, Highest}
-use Rattle.quantity.specs.declared.HighestLevel.{HighestLevel}
-use Rattle.quantity.specs.declared.HighestLevel.TheVariants as highests
 use Rattle.quantity.specs.declared.Level.{Level}
 use Rattle.quantity.specs.Lists.{Each}
 use Rattle.quantity.proofs.Lists.{each_at, each_set, each_same}
@@ -25,10 +25,9 @@ use Rattle.event.specs.Event.{event_of}
 use Rattle.exposure.specs.Exposure.{EnergyRange, energy_range_by}
 use Rattle.event.specs.Window.{highest}
 use Rattle.ledger.specs.Book.{most_classes}
-use Rattle.ledger.specs.Day.{Answered, none_in_class, no_day, Opening, open_rules, opened_day, period_of, with_period, energy_in, energy_at_bound, hour_energy, end_for_next_day}
+use Rattle.ledger.specs.Day.{Answered, no_day, Opening, open_rules, opened_day, period_of, with_period, energy_in, energy_at_bound, hour_energy, end_for_next_day}
 use Rattle.admission.specs.Checks.{Offering, day_checks, in_daytime}
 use Rattle.offering.specs.Offer.{with_event, in_hour, raised, raised_in_class, admitted, offered_by, offered}
-use Rattle.ledger.specs.declared.ClassHighest.{ClassHighest}
 use Rattle.ledger.specs.declared.Day.{Day}
 use Rattle.ledger.specs.declared.Period.{Period}
 use Rattle.accuracy.specs.Terminal.{day_after, day_after_calls}
@@ -44,14 +43,14 @@ use Rattle.c_accuracy.specs.Calls.{CCall, offer, close, call_of, lent_to, words_
 use Rattle.c_accuracy.specs.Demand.{HeldLaw, EndLaw, CHourLaw}
 
 -- what is known of a day that calls reach: it fits into its words, no Lmax is above the limit, and what is kept in four limbs is below 2 ^ 128
-abbrev pub Low : HighestLevel → Type 0
-Low (highests.At l) = l.0 ≤ highest_sample
-Low highests.Nothing = Unit
+abbrev pub Low : std.Option Level → Type 0
+Low (Some l) = l.0 ≤ highest_sample
+Low None = Unit
 
-abbrev pub LowClass : ClassHighest → Type 0
-LowClass c = Low c.level
+abbrev pub LowClass : std.Option Level → Type 0
+LowClass c = Low c
 
-abbrev pub AllLow : List ClassHighest → Type 0
+abbrev pub AllLow : List (std.Option Level) → Type 0
 AllLow = Each LowClass
 
 pub record Reached (d : Day) : Type 0 where
@@ -87,16 +86,16 @@ fresh_ends o Highest true = lit< tt
 fresh_ends o Highest false = lit< tt
 
 fresh_reached : (o : Opening) → DayFits (opened_day o) → Reached (opened_day o)
-fresh_reached o f = record { fits = f; highest = tt; by_class = each_same LowClass most_classes none_in_class tt; ends = fresh_ends o }
+fresh_reached o f = record { fits = f; highest = tt; by_class = each_same LowClass most_classes None tt; ends = fresh_ends o }
 
 -- so is the day after an offer
-raised_low : (h : HighestLevel) (l : Level) → Low h → l.0 ≤ highest_sample → Low (raised h l)
-raised_low highests.Nothing l p q = q
-raised_low (highests.At h) l p q = test (ltb h.0 l.0) (λ t. rw t q) (λ t. rw t p)
+raised_low : (h : std.Option Level) (l : Level) → Low h → l.0 ≤ highest_sample → Low (raised h l)
+raised_low None l p q = q
+raised_low (Some h) l p q = test (ltb h.0 l.0) (λ t. rw t q) (λ t. rw t p)
 
-raised_all_low : (cs : List ClassHighest) (k : ℕ) (l : Level) → AllLow cs → l.0 ≤ highest_sample → AllLow (raised_in_class cs k l)
+raised_all_low : (cs : List (std.Option Level)) (k : ℕ) (l : Level) → AllLow cs → l.0 ≤ highest_sample → AllLow (raised_in_class cs k l)
 raised_all_low cs k l p q =
-    each_set LowClass cs k _ p (raised_low (get_or cs k none_in_class).level l (each_at LowClass cs k none_in_class p tt) q)
+    each_set LowClass cs k _ p (raised_low (get_or cs k None) l (each_at LowClass cs k None p tt) q)
 
 same_highest : (d : Day) (b : Bool) (p : Period) → (with_period d b p).highest ≡ d.highest
 same_highest d true p = refl

@@ -2,4 +2,3 @@
 pub mod Records
 pub mod Classes
 pub mod Written
-pub mod Pairs

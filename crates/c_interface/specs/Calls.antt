@@ -3,14 +3,13 @@ use Rattle.std.specs.Prelude.{Bool, ◌≡◌, List, [], ◌∷◌, ℕ, ℤ, le
 use Rattle.quantity.specs.Rules.{Outcome, outcome, Rule, first_of}
 use Rattle.quantity.specs.Lent.{Left, leaves}
 use Rattle.quantity.specs.Instants.{instant_of, after_midnight}
-use Rattle.quantity.specs.Scale.{is_reading_outside}
 use Rattle.limbs.specs.Value.{value}
 use Rattle.ledger.specs.Day.{Opening, opened, end_for_next_day, hour_energy}
 use Rattle.admission.specs.Checks.{Offering}
 use Rattle.offering.specs.Offer.{offered}
 use Rattle.closing.specs.Close.{Closed, day_closed}
 use Rattle.mean.specs.Mean.{week_mean_of, year_mean_of}
-use Rattle.mean.specs.Records.{place_rule}
+use Rattle.mean.specs.Records.{place_rule, rules_of_rewriting}
 use Rattle.pairing.specs.Pairing.{Marks}
 use Rattle.pairing.specs.Answers.{Answered}
 use Rattle.land.specs.Classes.{class_of}
@@ -93,8 +92,7 @@ read_leaves day_record records place =
     leaves day_record (outcome (first_of (place_rule (length records) place ∷ [])) (get_or records place 0)) (λ found. found)
 
 abbrev pub record_rewrite_rules : List ℕ → ℕ → ℕ → List Rule
-record_rewrite_rules records place new =
-    place_rule (length records) place ∷ record { number = 14; refuses = is_reading_outside (record_level new) } ∷ []
+record_rewrite_rules records place new = rules_of_rewriting (length records) place (record_level new)
 
 abbrev pub rewrite_leaves : List ℕ → ℕ → ℕ → Left (List ℕ)
 rewrite_leaves records place new =

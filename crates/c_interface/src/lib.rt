@@ -8,7 +8,7 @@ ghost use Rattle.quantity.specs.Instants.{ticks_of};
 ghost use Rattle.quantity.specs.Lent.{leaves};
 ghost use Rattle.ledger.specs.Day.{opening_of, levels_by_class};
 ghost use Rattle.mean.specs.Mean.{mean_outcome, mean_of};
-ghost use Rattle.land.specs.Answers.{margin_reading, finding_reading};
+ghost use Rattle.land.specs.Answers.{finding_reading};
 ghost use Rattle.pairing.specs.Pairing.{instants};
 ghost use Rattle.c_interface.specs.Numbers.{
   level_from,
@@ -22,7 +22,6 @@ ghost use Rattle.c_interface.specs.Numbers.{
   record_level,
   record_levels,
   finding_number,
-  margin_number,
 };
 ghost use Rattle.c_interface.specs.Calls.{
   open_leaves,
@@ -41,35 +40,30 @@ ghost use Rattle.c_interface.specs.Calls.{
 };
 
 use admission::Recording;
-use closing::CloseAnswer;
-use land::{Finding, LandClassAnswer, Margin, VerdictAnswer};
-use ledger::ClassHighest;
-use mean::{MeanAnswer, Total};
-use offering::OfferAnswer;
-use pairing::PairingAnswer;
-use quantity::{
-    Check, HighestLevel, Level, Method, Reading, Refusal, SignedLevel, Tick, Tolerance,
-};
+use land::Finding;
+use quantity::{DayAnswer, Level, Reading, Refusal, SignedLevel, Tick, Tolerance};
 
 // What stands for 'below scale': the lowest number of 32 bits, which is under every level.
-const BELOW_SCALE: i32 = -2147483648;
+const BELOW_SCALE: i32 = i32::MIN;
 
 // What stands for no Lmax.
-const NO_LMAX: u32 = 4294967295;
+const NO_LMAX: u32 = u32::MAX;
 
 // What stands for no margin.
-const NO_MARGIN: i32 = 2147483647;
+const NO_MARGIN: i32 = i32::MAX;
 
 // The upper 32 bits of a number of 64 begin here: the method of a record, and every second limb of an energy.
 const UPPER: u64 = 4294967296;
 
+// What C is given in place of an enum or an Option, and reads back. Functions and no From: the types are of other crates, and these numbers are for C alone.
 fn level_from(n: i32) -> Reading
     ensures { reading result ≡ level_from n }
 {
     if BELOW_SCALE < n {
-        return Reading::At(SignedLevel(n));
+        Reading::At(SignedLevel(n))
+    } else {
+        Reading::BelowScale
     }
-    Reading::BelowScale
 }
 
 fn level_number(level: Reading) -> i32
@@ -88,37 +82,35 @@ pub fn level_bits(level: Reading) -> u32
     quantity::bits_of(level_number(level))
 }
 
-fn highest_from(n: u32) -> HighestLevel
+fn highest_from(n: u32) -> Option<Level>
     ensures { highest_reading result ≡ highest_from n }
 {
-    if n == NO_LMAX {
-        return HighestLevel::Nothing;
-    }
-    HighestLevel::At(Level(n))
+    (n != NO_LMAX).then_some(Level(n))
 }
 
-pub fn highest_number(highest: HighestLevel) -> u32
+pub fn highest_number(highest: Option<Level>) -> u32
     ensures { result ≡ highest_number (highest_reading highest) }
 {
-    match highest {
-        HighestLevel::At(at) => at.0,
-        HighestLevel::Nothing => NO_LMAX,
-    }
+    highest.map_or(NO_LMAX, |at| at.0)
 }
 
 // The highest Lmax of each class.
-fn class_numbers(levels: [ClassHighest; 16]) -> [u32; 16]
+fn class_numbers(levels: [Option<Level>; 16]) -> [u32; 16]
     ensures { result ≡ class_numbers (levels_by_class levels) }
 {
-    let mut numbers = [0u32; 16];
-    let mut i = 0;
-    while i < 16 {
-        let class = levels[i];
-        let highest = class.level;
-        numbers[i] = highest_number(highest);
-        i += 1;
+    // A loop: `map` took 490 instructions in place of 110.
+    let mut numbers = [0; 16];
+    for (i, number) in numbers.iter_mut().enumerate() {
+        *number = highest_number(levels[i]);
     }
     numbers
+}
+
+// Two numbers of 32 bits as one of 64.
+fn joined(low: u32, high: u32) -> u64
+    ensures { result ≡ low + upper * high }
+{
+    low as u64 + UPPER * (high as u64)
 }
 
 // The level of a record.
@@ -129,10 +121,10 @@ fn record_level(day_record: u64) -> Reading
 }
 
 // The record of a day's answer.
-fn record_of(ldn: Reading, method: Method) -> u64
-    ensures { result ≡ record_number (reading ldn) (method_number method) }
+fn record_of(answer: DayAnswer) -> u64
+    ensures { result ≡ record_number (reading answer.level) (method_number answer.method) }
 {
-    level_bits(ldn) as u64 + UPPER * (quantity::method_number(method) as u64)
+    joined(level_bits(answer.level), u8::from(answer.method) as u32)
 }
 
 // Opens a day: the samples a second of its terminal, the first and the last daytime tick, the end of the previous day's last stretch in ticks after the new
@@ -151,15 +143,10 @@ pub fn moatburdock_open_day(
 {
     let before = quantity::instant_of(end);
     let opened = ledger::open_day(rate, Tick(first), Tick(last), before, daytime, night);
-    let answer = opened.answer;
-    match answer {
-        Check::Refused(refusal) => quantity::refusal_number(refusal),
-        Check::Passed => {
-            let fresh = opened.day;
-            day_words::encode(fresh, day);
-            0
-        }
+    if let Ok(fresh) = opened {
+        day_words::encode(fresh, day);
     }
+    quantity::answer_number(opened)
 }
 
 // Offers an event to a day: its start in ticks after midnight, negative before it, the class of the flight, the wind in tenths of m/s, rain, snow or thunder,
@@ -190,20 +177,12 @@ pub fn moatburdock_offer(
         tolerance: Tolerance(tolerance),
     };
     let offered = offering::offer(day_words::decode(day), recording, samples);
-    let answer = offered.answer;
-    match answer {
-        OfferAnswer::Refused(refusal) => quantity::refusal_number(refusal),
-        OfferAnswer::Accepted {
-            exposure: level,
-            lmax: highest,
-        } => {
-            let after = offered.day;
-            day_words::encode(after, day);
-            *exposure = level_number(level);
-            *lmax = highest.0;
-            0
-        }
+    if let Ok(accepted) = offered.answer {
+        day_words::encode(offered.day, day);
+        *exposure = level_number(accepted.exposure);
+        *lmax = accepted.lmax.0;
     }
+    quantity::answer_number(offered.answer)
 }
 
 // The end to open the next day with: that of the day's last accepted stretch in ticks after the next midnight, and 600 s before it where there is none.
@@ -213,20 +192,13 @@ pub fn moatburdock_end_for_next_day(day: &[u32; 320]) -> i32
     quantity::after_midnight(ledger::end_for_next_day(day_words::decode(day)))
 }
 
-// Two limbs as one number.
-fn half_of(low: u32, high: u32) -> u64
-    ensures { result ≡ low + upper * high }
-{
-    low as u64 + UPPER * (high as u64)
-}
-
 // Gives the energy of the events whose peak lies in a clock hour, of both periods and without weights, in two halves, the lower one first. An hour above 23
 // has 0.
 pub fn moatburdock_hour_energy(day: &[u32; 320], hour: u32, energy: &mut [u64; 2])
     ensures { energy.new ≡ energy_given day.now hour }
 {
     let sum = ledger::hour_energy(day_words::decode(day), hour);
-    *energy = [half_of(sum[0], sum[1]), half_of(sum[2], sum[3])];
+    *energy = [joined(sum[0], sum[1]), joined(sum[2], sum[3])];
 }
 
 // Closes a day, with the calibration levels before and after. Gives the day's record, the lowest and the highest Ldn within the tolerances of the meters, Nd',
@@ -262,59 +234,33 @@ pub fn moatburdock_close_day(
         day.now before after }
 {
     let closed = closing::close_day(day_words::decode(day), Level(before), Level(after));
-    let result = closed.answer;
-    match result {
-        CloseAnswer::Refused(refusal) => quantity::refusal_number(refusal),
-        CloseAnswer::Closed(closing) => {
-            let answer = closing.answer;
-            let ldn = answer.level;
-            let method = answer.method;
-            let highest = closing.highest;
-            let levels = closed.highest_by_class;
-            let lowest = closing.lowest_ldn;
-            let above = closing.highest_ldn;
-            *day_record = record_of(ldn, method);
-            *lowest_ldn = level_number(lowest);
-            *highest_ldn = level_number(above);
-            *counts = [
-                closing.day_events,
-                closing.night_events,
-                highest_number(highest),
-            ];
-            *highest_by_class = class_numbers(levels);
-            0
-        }
+    if let Ok(closing) = closed.answer {
+        *day_record = record_of(closing.answer);
+        *lowest_ldn = level_number(closing.lowest_ldn);
+        *highest_ldn = level_number(closing.highest_ldn);
+        *counts = [
+            closing.day_events,
+            closing.night_events,
+            highest_number(closing.highest),
+        ];
+        *highest_by_class = class_numbers(closed.highest_by_class);
     }
+    quantity::answer_number(closed.answer)
 }
 
 // The mean of the records, where their number is from the fewest to the most.
-fn mean_of(records: &[u64], fewest: usize, most: usize) -> MeanAnswer
+fn mean_of(records: &[u64], fewest: usize, most: usize) -> Result<Reading, Refusal>
     requires { (0 < fewest) × (most ≤ 366) }
     ensures { mean_outcome result ≡ mean_of fewest most (record_levels records.now) }
 {
-    let counted = mean::days_if_allowed(records.len(), fewest, most);
-    let table = power::mantissas();
-    let mut sums = [0u64; 26];
-    let mut outside = false;
-    let mut i = 0;
-    while i < counted {
-        outside = mean::add_day(&table, &mut sums, outside, record_level(records[i]));
-        i += 1;
-    }
-    mean::mean_of_total(&table, Total { sums, outside }, counted)
+    mean::mean_of(records, fewest, most, record_level)
 }
 
 // Gives the level of a mean.
-fn give_mean(answer: MeanAnswer, level: &mut i32) -> u8
+fn give_mean(answer: Result<Reading, Refusal>, level: &mut i32) -> u8
     ensures { record { answer = result; lent = level.new } ≡ leaves level.old (mean_outcome answer) level_number }
 {
-    match answer {
-        MeanAnswer::Refused(refusal) => quantity::refusal_number(refusal),
-        MeanAnswer::Mean(mean) => {
-            *level = level_number(mean);
-            0
-        }
-    }
+    quantity::give(answer.map(level_number), level)
 }
 
 // The mean of a week, of exactly 7 records.
@@ -332,31 +278,25 @@ pub fn moatburdock_year_mean(records: &[u64], level: &mut i32) -> u8
 }
 
 // The record at a place of the year.
+#[tactic(auto, unfolding(quantity::specs::Rules::first_of))]
 pub fn moatburdock_read_record(records: &[u64], place: usize, day_record: &mut u64) -> u8
     ensures { record { answer = result; lent = day_record.new }
         ≡ read_leaves day_record.old records.now place }
 {
-    if records.len() <= place {
-        return quantity::refusal_number(Refusal::DayCount);
-    }
-    *day_record = records[place];
-    0
+    quantity::give(
+        records.get(place).copied().ok_or(Refusal::DayCount),
+        day_record,
+    )
 }
 
 // Puts a new record at a place of the year.
 pub fn moatburdock_rewrite_record(records: &mut [u64], place: usize, new: u64) -> u8
     ensures { record { answer = result; lent = records.new } ≡ rewrite_leaves records.old place new }
 {
-    if records.len() <= place {
-        return quantity::refusal_number(Refusal::DayCount);
-    }
-    if quantity::is_reading_outside(record_level(new)) {
-        return quantity::refusal_number(Refusal::RecordLevelOutside);
-    }
-    records[place] = new;
-    0
+    quantity::answer_number(mean::rewrite(records, place, new, record_level(new)))
 }
 
+// What a verdict names, by its number in C.
 fn finding_number(finding: Finding) -> u8
     ensures { result ≡ finding_number (finding_reading finding) }
 {
@@ -366,15 +306,6 @@ fn finding_number(finding: Finding) -> u8
         Finding::OverMaximum => 2,
         Finding::Both => 3,
         Finding::NoLimit => 4,
-    }
-}
-
-fn margin_number(margin: Margin) -> i32
-    ensures { result ≡ margin_number (margin_reading margin) }
-{
-    match margin {
-        Margin::Of(m) => m,
-        Margin::Nothing => NO_MARGIN,
     }
 }
 
@@ -393,30 +324,18 @@ pub fn moatburdock_verdict(
         class yearly sensitive lmax }
 {
     let verdict = land::verdict(class, level_from(yearly), sensitive, highest_from(lmax));
-    match verdict {
-        VerdictAnswer::Refused(refusal) => quantity::refusal_number(refusal),
-        VerdictAnswer::Given(assessment) => {
-            let found = assessment.finding;
-            let distance = assessment.margin;
-            *finding = finding_number(found);
-            *margin = margin_number(distance);
-            0
-        }
+    if let Ok(assessment) = verdict {
+        *finding = finding_number(assessment.finding);
+        *margin = assessment.margin.unwrap_or(NO_MARGIN);
     }
+    quantity::answer_number(verdict)
 }
 
 // The class of a land code of two ASCII bytes.
 pub fn moatburdock_land_class(letter: u8, digit: u8, class: &mut u8) -> u8
     ensures { record { answer = result; lent = class.new } ≡ class_leaves class.old letter digit }
 {
-    let answer = land::land_class(letter, digit);
-    match answer {
-        LandClassAnswer::Refused(refusal) => quantity::refusal_number(refusal),
-        LandClassAnswer::Known(known) => {
-            *class = land::class_number(known);
-            0
-        }
-    }
+    quantity::give(land::land_class(letter, digit).map(u8::from), class)
 }
 
 // Pairs movements with peaks that are no further apart than the tolerance, each at most once and as many as can be. All times are in ticks after midnight,
@@ -442,12 +361,6 @@ pub fn moatburdock_pair_movements(
           };
         }) }
 {
-    let answer = pairing::pair_movements(movements, peaks, tolerance, movement_marks, peak_marks);
-    match answer {
-        PairingAnswer::Refused(refusal) => quantity::refusal_number(refusal),
-        PairingAnswer::Paired(pairs) => {
-            *count = pairs;
-            0
-        }
-    }
+    let pairs = pairing::pair_movements(movements, peaks, tolerance, movement_marks, peak_marks);
+    quantity::give(pairs, count)
 }

@@ -1,4 +1,3 @@
 -- The laws that the proofs of `c_planning` cite.
 pub mod Filling
-pub mod Mixes
 pub mod Runs

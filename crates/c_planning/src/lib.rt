@@ -7,10 +7,9 @@ ghost use Rattle.thrust.specs.Laws.{Alike, IsNumber};
 ghost use Rattle.start_of_roll.specs.Correction.{correction_at_angle, IsFinite};
 ghost use Rattle.c_planning.specs.Calls.{rows_of, level_by_runs, ExactByRuns, level_leaves, correction_leaves, MixesLeave};
 
-use mixes::MixAnswer;
 use quantity::Refusal;
-use start_of_roll::{Correction, CorrectionAnswer};
-use thrust::{Row, ThrustAnswer};
+use start_of_roll::Correction;
+use thrust::Row;
 
 // The rows of two runs, at the beginning of an array.
 fn rows_of(thrusts: &[f64], levels: &[f64]) -> [Row; thrust::MOST_ROWS]
@@ -21,31 +20,28 @@ fn rows_of(thrusts: &[f64], levels: &[f64]) -> [Row; thrust::MOST_ROWS]
         thrust: 0.0,
         level: 0.0,
     }; thrust::MOST_ROWS];
-    let mut i = 0;
-    while i < thrusts.len() {
+    for (i, thrust) in thrusts.iter().enumerate() {
         rows[i] = Row {
-            thrust: thrusts[i],
+            thrust: *thrust,
             level: levels[i],
         };
-        i += 1;
     }
     rows
 }
 
 // The level at a thrust, by rows in two runs.
-fn level_by_runs(thrusts: &[f64], levels: &[f64], thrust: f64) -> ThrustAnswer
+fn level_by_runs(thrusts: &[f64], levels: &[f64], thrust: f64) -> Result<f64, Refusal>
     ensures result_value { thrust_reading result ≡ level_by_runs thrusts.now levels.now thrust }
     ensures exact { ExactByRuns thrusts.now levels.now thrust (thrust_reading result) }
     ensures number { IsNumber (thrust_reading result) }
 {
     if levels.len() != thrusts.len() {
-        return ThrustAnswer::Refused(Refusal::RowsUnfit);
+        return Err(Refusal::RowsUnfit);
     }
     if thrust::MOST_ROWS < thrusts.len() {
-        return ThrustAnswer::Refused(Refusal::RowsUnfit);
+        return Err(Refusal::RowsUnfit);
     }
-    let rows = rows_of(thrusts, levels);
-    thrust::level_at_thrust(rows, thrusts.len(), thrust)
+    thrust::level_at_thrust(rows_of(thrusts, levels), thrusts.len(), thrust)
 }
 
 // The level in dB at a thrust in kN, by rows of a thrust and a level each: the thrusts in one run, the levels in another.
@@ -60,17 +56,10 @@ pub fn moatburdock_level_at_thrust(
     ensures exact { ExactByRuns thrusts.now levels.now thrust (level_by_runs thrusts.now levels.now thrust) }
     ensures number { IsNumber (level_by_runs thrusts.now levels.now thrust) }
 {
-    let answer = level_by_runs(thrusts, levels, thrust);
-    match answer {
-        ThrustAnswer::Refused(refusal) => quantity::refusal_number(refusal),
-        ThrustAnswer::At(found) => {
-            *level = found;
-            0
-        }
-    }
+    quantity::give(level_by_runs(thrusts, levels, thrust), level)
 }
 
-// Where a point lies from the start of roll, as a number.
+// Where a point lies from the start of roll, as a number: C has no enum with a value.
 const IN_FRONT: u8 = 0;
 
 const BESIDE: u8 = 1;
@@ -85,25 +74,20 @@ pub fn moatburdock_correction_at_angle(angle: f64, position: &mut u8, correction
     ensures finite { IsFinite (correction_at_angle angle) }
 {
     let answer = start_of_roll::correction_at_angle(angle);
-    match answer {
-        CorrectionAnswer::Refused(refusal) => quantity::refusal_number(refusal),
-        CorrectionAnswer::Given(found) => {
-            match found {
-                Correction::InFront => {
-                    *position = IN_FRONT;
-                }
-                Correction::Beside(number) => {
-                    *position = BESIDE;
-                    *correction = number;
-                }
-                Correction::Behind(number) => {
-                    *position = BEHIND;
-                    *correction = number;
-                }
+    if let Ok(found) = answer {
+        match found {
+            Correction::InFront => *position = IN_FRONT,
+            Correction::Beside(number) => {
+                *position = BESIDE;
+                *correction = number;
             }
-            0
+            Correction::Behind(number) => {
+                *position = BEHIND;
+                *correction = number;
+            }
         }
     }
+    quantity::answer_number(answer)
 }
 
 // How many mixes of so many measured flights would pass on a book: for each class the flights by day and by night. The table is lent for a row of N' + 1 numbers
@@ -119,12 +103,5 @@ pub fn moatburdock_count_mixes(
         (record { count = count.old; table = table.old })
         (record { answer = result; lent = record { count = count.new; table = table.new } }) }
 {
-    let answer = mixes::count_mixes(daytime, night, measured, table);
-    match answer {
-        MixAnswer::Refused(refusal) => quantity::refusal_number(refusal),
-        MixAnswer::Counted(passing) => {
-            *count = passing;
-            0
-        }
-    }
+    quantity::give(mixes::count_mixes(daytime, night, measured, table), count)
 }

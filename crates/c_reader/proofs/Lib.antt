@@ -1,5 +1,4 @@
 -- The laws of `c_reader`: that the words of a reader stand for it, that every reader that steps reach fits into them, and what a run of calls comes to.
-pub mod Putting
 pub mod Inverse
 pub mod Reached
 pub mod Running

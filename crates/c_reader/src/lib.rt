@@ -2,7 +2,7 @@
 // words make a reader, and the words of a reader stand for that very reader.
 #![tactic(auto)]
 
-ghost use Rattle.std.specs.Prelude.{◌≡◌, ◌≤◌, length, take};
+ghost use Rattle.std.specs.Prelude.{◌≡◌, ◌++◌, ◌-◌, ◌≤◌, length, replicate, take};
 ghost use Rattle.day_words.specs.Words.{word_count, day_words, day_from};
 ghost use Rattle.offering.specs.Offer.{offer_outcome};
 ghost use Rattle.closing.specs.Close.{close_outcome};
@@ -10,10 +10,10 @@ ghost use Rattle.steps.specs.Machine.{fresh_reader, coming_reading};
 ghost use Rattle.c_reader.specs.Words.{stage_number, stage_from, place_words, reader_words, reader_from};
 ghost use Rattle.c_reader.specs.Calls.{came_number, event_numbers, close_numbers, numbers_for, step_leaves};
 
-use closing::CloseAnswer;
+use closing::Closing;
 use ledger::Day;
-use offering::OfferAnswer;
-use quantity::Level;
+use offering::Accepted;
+use quantity::{Level, Refusal};
 use steps::{Came, Reader, Stage};
 
 // Where the words of a reader stand that are behind those of its day.
@@ -27,6 +27,7 @@ const COUNT: usize = 323;
 
 const DONE: usize = 324;
 
+// A stage as a word, and back. Functions and no From: the type is of another crate, and the word is of the reader alone.
 fn stage_number(stage: Stage) -> u32
     ensures { result ≡ stage_number stage }
 {
@@ -40,67 +41,61 @@ fn stage_number(stage: Stage) -> u32
 fn stage_from(n: u32) -> Stage
     ensures { result ≡ stage_from n }
 {
-    if n == 0 {
-        return Stage::Fresh;
+    match n {
+        0 => Stage::Fresh,
+        1 => Stage::Events,
+        _ => Stage::Ended,
     }
-    if n == 1 {
-        return Stage::Events;
-    }
-    Stage::Ended
+}
+
+// The first numbers of some, the rest of which are 0.
+fn padded<const N: usize>(first: &[u32]) -> [u32; N]
+    requires { length first.now ≤ N }
+    ensures { result ≡ first.now ++ replicate (N - length first.now) 0 }
+{
+    let mut numbers = [0; N];
+    numbers[..first.len()].copy_from_slice(first);
+    numbers
 }
 
 // The sixteen words behind those of the day.
 fn place_words(reader: Reader) -> [u32; 16]
     ensures { result ≡ place_words reader }
 {
-    let stage = reader.stage;
-    [
-        stage_number(stage),
+    padded(&[
+        stage_number(reader.stage),
         reader.before.0,
         reader.after.0,
         reader.count as u32,
         reader.done as u32,
-        0,
-        0,
-        0,
-        0,
-        0,
-        0,
-        0,
-        0,
-        0,
-        0,
-        0,
-    ]
+    ])
 }
 
 // The words of its day.
 fn words_of(day: Day) -> [u32; 320]
     ensures { result ≡ day_words day }
 {
-    let mut first = [0u32; 320];
+    let mut first = [0; 320];
     day_words::encode(day, &mut first);
     first
 }
 
 // Writes the words of a reader.
+#[tactic(auto, unfolding(crate::specs::Words::reader_words))]
 fn encode(reader: Reader, words: &mut [u32; 336])
     ensures { words.new ≡ reader_words reader }
 {
-    let day = reader.day;
-    let first = words_of(day);
-    let place = place_words(reader);
-    let behind = runs::put_words(words, 0, &first);
-    runs::put_words(words, behind, &place);
+    let (day, place) = words.split_at_mut(STAGE);
+    day.copy_from_slice(&words_of(reader.day));
+    place.copy_from_slice(&place_words(reader));
 }
 
 // The day that the first words stand for.
-fn day_of(words: &[u32]) -> Day
-    requires { word_count ≤ length words.now }
+fn day_of(words: &[u32; 336]) -> Day
     ensures { result ≡ day_from (take word_count words.now) }
 {
-    let mut first = [0u32; 320];
-    runs::put_words(&mut first, 0, &words[..STAGE]);
+    let mut first = [0; 320];
+    first.copy_from_slice(&words[..STAGE]);
     day_words::decode(&first)
 }
 
@@ -119,6 +114,7 @@ fn decode(words: &[u32; 336]) -> Reader
     }
 }
 
+// What came, by the number that C is told.
 fn came_number(came: Came) -> u8
     ensures { result ≡ came_number (coming_reading came) }
 {
@@ -132,65 +128,32 @@ fn came_number(came: Came) -> u8
     }
 }
 
-fn event_numbers(number: u32, answer: OfferAnswer) -> [u32; 8]
+fn event_numbers(number: u32, answer: Result<Accepted, Refusal>) -> [u32; 8]
     ensures { result ≡ event_numbers number (offer_outcome answer) }
 {
     match answer {
-        OfferAnswer::Refused(refusal) => [
-            quantity::refusal_number(refusal) as u32,
-            number,
-            0,
-            0,
-            0,
-            0,
-            0,
-            0,
-        ],
-        OfferAnswer::Accepted { exposure, lmax } => [
-            0,
-            number,
-            c_interface::level_bits(exposure),
-            lmax.0,
-            0,
-            0,
-            0,
-            0,
-        ],
+        Err(refusal) => padded(&[u8::from(refusal) as u32, number]),
+        Ok(Accepted { exposure, lmax }) => {
+            padded(&[0, number, c_interface::level_bits(exposure), lmax.0])
+        }
     }
 }
 
-fn close_numbers(answer: CloseAnswer) -> [u32; 8]
+fn close_numbers(answer: Result<Closing, Refusal>) -> [u32; 8]
     ensures { result ≡ close_numbers (close_outcome answer) }
 {
     match answer {
-        CloseAnswer::Refused(refusal) => [
-            quantity::refusal_number(refusal) as u32,
+        Err(refusal) => padded(&[u8::from(refusal) as u32]),
+        Ok(closing) => [
             0,
-            0,
-            0,
-            0,
-            0,
-            0,
-            0,
+            c_interface::level_bits(closing.answer.level),
+            u8::from(closing.answer.method) as u32,
+            closing.day_events,
+            closing.night_events,
+            c_interface::highest_number(closing.highest),
+            c_interface::level_bits(closing.lowest_ldn),
+            c_interface::level_bits(closing.highest_ldn),
         ],
-        CloseAnswer::Closed(closing) => {
-            let day_answer = closing.answer;
-            let ldn = day_answer.level;
-            let method = day_answer.method;
-            let highest = closing.highest;
-            let lowest_ldn = closing.lowest_ldn;
-            let highest_ldn = closing.highest_ldn;
-            [
-                0,
-                c_interface::level_bits(ldn),
-                quantity::method_number(method) as u32,
-                closing.day_events,
-                closing.night_events,
-                c_interface::highest_number(highest),
-                c_interface::level_bits(lowest_ldn),
-                c_interface::level_bits(highest_ldn),
-            ]
-        }
     }
 }
 
@@ -200,19 +163,8 @@ fn numbers_of(came: Came) -> [u32; 8]
     match came {
         Came::Answered { number, answer } => event_numbers(number, answer),
         Came::Closed(answer) => close_numbers(answer),
-        Came::Fault(refusal) => [
-            quantity::refusal_number(refusal) as u32,
-            0,
-            0,
-            0,
-            0,
-            0,
-            0,
-            0,
-        ],
-        Came::More => [0u32; 8],
-        Came::Started => [0u32; 8],
-        Came::Nothing => [0u32; 8],
+        Came::Fault(refusal) => padded(&[u8::from(refusal) as u32]),
+        Came::More | Came::Started | Came::Nothing => [0; 8],
     }
 }
 
@@ -248,11 +200,9 @@ pub fn moatburdock_read_step(
         reader.old line.old window.now ended }
 {
     let stepped = steps::step(decode(reader), window, ended);
-    let next = stepped.reader;
-    let came = stepped.came;
-    encode(next, reader);
+    encode(stepped.reader, reader);
     *used = stepped.used;
-    *numbers = numbers_of(came);
-    *size = steps::put_line(line, came);
-    came_number(came)
+    *numbers = numbers_of(stepped.came);
+    *size = steps::put_line(line, stepped.came);
+    came_number(stepped.came)
 }

@@ -1,3 +1,2 @@
 -- The laws that the proofs of `closing` share.
 pub mod Answers
-pub mod Energy

@@ -1,9 +1,10 @@
 -- Document 01, 'Day', 'Refused calls', and document 02, W-201 and W-211: closing a day.
-use Rattle.std.specs.Prelude.{List, [], ◌∷◌, ℕ, ltb, replicate}
+use Rattle.std.specs.Prelude.{List, [], ◌∷◌, ℕ, ltb, replicate, Result}
 use Rattle.std.proofs.Math.Option.{Option, none}
-use Rattle.quantity.specs.Answers.{Reading, reading, method_number, highest_reading, refusal_number}
+use Rattle.quantity.specs.Answers.{Reading, reading, method_number, highest_reading, outcome_of}
 use Rattle.quantity.specs.Numbers.{distance}
 use Rattle.quantity.specs.Rules.{Rule, first_of, Outcome, refused, given, outcome}
+use Rattle.quantity.specs.declared.Refusal.{Refusal}
 use Rattle.quantity.specs.declared.Bound.{Bound}
 use Rattle.quantity.specs.declared.Bound.TheVariants.{Lowest, Highest}
 use Rattle.ledger.specs.Book.{most_classes}
@@ -12,11 +13,8 @@ use Rattle.ledger.specs.declared.Day.{Day}
 use Rattle.method.specs.Method.{Counts, method_by, method_rule, counts_of}
 use Rattle.closing.specs.Formula.{formula_by, level_by}
 use Rattle.closing.specs.declared.Formula.{Formula}
-use Rattle.closing.specs.declared.LdnRange as ranges
 use Rattle.closing.specs.declared.Closing as declared
 use Rattle.closing.specs.declared.Closed as closeds
-use Rattle.closing.specs.declared.CloseAnswer.{CloseAnswer}
-use Rattle.closing.specs.declared.CloseAnswer.TheVariants as cases
 
 -- 11: the calibration levels differ by more than 50; then 12
 abbrev pub largest_drift : ℕ
@@ -29,23 +27,6 @@ close_rules before after c =
 -- W-211: the level of a day by a formula, with each sample at an end of its range
 abbrev pub level_at_bound : Bound → Formula → Day → Reading
 level_at_bound b f day = level_by f (energy_at_bound b day.daytime) (energy_at_bound b day.night)
-
--- Ldn of the recorded samples, and the lowest and the highest one
-pub record LdnRange : Type 0 where
-  pub recorded : Reading
-  pub lowest : Reading
-  pub highest : Reading
-
-abbrev pub ldn_range : ranges.LdnRange → LdnRange
-ldn_range r = record { recorded = reading r.recorded; lowest = reading r.lowest; highest = reading r.highest }
-
-abbrev pub range_by : Formula → Day → LdnRange
-range_by f day =
-    record {
-      recorded = level_by f (energy_in day.daytime) (energy_in day.night);
-      lowest = level_at_bound Lowest f day;
-      highest = level_at_bound Highest f day;
-    }
 
 -- what closing returns: Ldn, the lowest and the highest Ldn (W-211), the method, Nd', Nn' and the highest Lmax, or none without events
 pub record Closing : Type 0 where
@@ -69,9 +50,8 @@ closing_reading c =
       highest = highest_reading c.highest;
     }
 
-abbrev pub close_outcome : CloseAnswer → Outcome Closing
-close_outcome (cases.Closed c) = given (closing_reading c)
-close_outcome (cases.Refused r) = refused (refusal_number r)
+abbrev pub close_outcome : Result declared.Closing Refusal → Outcome Closing
+close_outcome = outcome_of closing_reading
 
 -- a day that no rule refuses, by its two energies
 abbrev pub closing_by : Day → (Sd Sn : ℕ) → Closing

@@ -7,7 +7,6 @@
 
 ghost use Rattle.std.specs.Prelude.{◌≡◌, ◌<◌, ◌≤◌, IfOk, IfSome, OnOk, OnErr, length, take};
 ghost use Rattle.std.specs.Io.KnownBytes.{Appends, IsAtEnd};
-ghost use Rattle.power.specs.Table.{IsTable};
 ghost use Rattle.day_file.specs.Window.{longest_record};
 ghost use Rattle.stream.specs.Part.{part, SameRun};
 ghost use Rattle.steps.specs.Machine.{coming_reading, is_done, line_for};
@@ -31,12 +30,11 @@ struct Turn {
 // Sees that enough is held, and makes a step on it. After a failed read the bytes that are not used up stand at the beginning.
 fn take_turn<R: Read>(
     input: &mut R,
-    table: &[u64; 1000],
     room: &mut [u16; 24000],
     held: &mut [u8],
     last: Turn,
 ) -> io::Result<Turn>
-    requires { IsTable table.now × (longest_record ≤ length held.old) }
+    requires { longest_record ≤ length held.old }
     ensures turned { IfOk result (λ r. Turned held.old last held.new r) }
     ensures failed { OnErr result (take (length (unused last held.old)) held.new ≡ unused last held.old) }
     ensures whole { length held.new ≡ length held.old }
@@ -45,30 +43,16 @@ fn take_turn<R: Read>(
     ensures input_ended { IfOk result (λ r. (last.end < length held.old → IsAtEnd (R.remaining input.old))
         → r.end < length held.new → IsAtEnd (R.remaining input.new)) }
 {
-    let reader = last.reader;
-    let at = last.at;
-    let end = last.end;
-    let rest = stream::hold_enough(input, held, at, end, steps::longest_need(reader))?;
-    let from = rest.at;
-    let to = rest.end;
-    let step = steps::step_with(table, reader, &held[from..to], rest.ended, room);
-    let next = step.reader;
-    let came = step.came;
+    let need = steps::longest_need(last.reader);
+    let rest = stream::hold_enough(input, held, last.at, last.end, need)?;
+    let step = steps::step_with(last.reader, &held[rest.at..rest.end], rest.ended, room);
     Ok(Turn {
-        reader: next,
-        from,
-        at: from + step.used,
-        end: to,
-        came,
+        reader: step.reader,
+        from: rest.at,
+        at: rest.at + step.used,
+        end: rest.end,
+        came: step.came,
     })
-}
-
-// Whether the last line is written.
-fn is_over(turn: Turn) -> bool
-    ensures { result ≡ is_done turn.reader }
-{
-    let reader = turn.reader;
-    steps::is_done(reader)
 }
 
 // Writes the line of what came, if there is one.
@@ -85,41 +69,31 @@ fn write_line<W: Write>(out: &mut W, came: Came) -> io::Result<()>
 fn run<R: Read, W: Write>(
     input: &mut R,
     out: &mut W,
-    table: &[u64; 1000],
     room: &mut [u16; 24000],
     held: &mut [u8],
 ) -> io::Result<()>
-    requires { IsTable table.now × (longest_record ≤ length held.old) }
+    requires { longest_record ≤ length held.old }
     ensures { OnOk result (IfSome (R.remaining input.old) (λ file. Appends (W.contents out.old) (W.contents out.new) (report_of file))) }
 {
     let size = held.len();
-    let reader = steps::fresh();
     let mut turn = Turn {
-        reader,
+        reader: steps::fresh(),
         from: size,
         at: size,
         end: size,
         came: Came::Nothing,
     };
-    while !is_over(turn) {
-        let next = take_turn(input, table, room, held, turn)?;
-        turn = next;
-        let came = next.came;
-        write_line(out, came)?;
+    // How many turns there are shows only as the file is read.
+    while !steps::is_done(turn.reader) {
+        turn = take_turn(input, room, held, turn)?;
+        write_line(out, turn.came)?;
     }
     Ok(())
 }
 
-// The table of mantissas and the room for samples are made once.
+// The room for samples is made once.
 fn main(rt: HostRuntime) -> io::Result<()> {
-    let table = power::mantissas();
     let mut room = [0u16; 24000];
     let mut held = [0u8; 65536];
-    run(
-        &mut rt.stdin(),
-        &mut rt.stdout(),
-        &table,
-        &mut room,
-        &mut held,
-    )
+    run(&mut rt.stdin(), &mut rt.stdout(), &mut room, &mut held)
 }

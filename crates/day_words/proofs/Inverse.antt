@@ -1,21 +1,23 @@
 -- The words of a day stand for that very day: each field is read where it was put.
+use Rattle.std.specs.Prelude as std
+use Rattle.std.specs.Prelude.{Some, None}
+use Rattle.quantity.specs.declared.Level.{Level}
 use mathlib.Core.Path.{◌≡◌, refl, sym, ap, ap₂, ◌∙◌}
 use mathlib.Core.List.{List, [], ◌∷◌, ◌++◌, append_assoc}
 use Prim.Native.Nat.{ℕ, suc, ◌+◌, ◌*◌}
-use native.Mathlib.Nat.{add-zero, mod-eq_of_lt}
+use native.Mathlib.Nat.{mod-eq_of_lt}
 use native.Mathlib.Omega.{arith}
 use lib.ListN.{length, drop, get_or, replicate, length-append}
 use lib.Seq.{drop-drop, take_at, drop_at, get_or-drop}
 use Rattle.quantity.specs.Lists.{Each}
-use Rattle.quantity.specs.declared.HighestLevel.{HighestLevel}
-use Rattle.quantity.specs.declared.HighestLevel.TheVariants as highests
 use Rattle.clock.specs.declared.Rate.{Rate}
 use Rattle.clock.specs.declared.Rate.TheVariants.{Ten, Twenty, Forty}
 use Rattle.ledger.specs.declared.Cell.{Cell}
 use Rattle.ledger.specs.declared.Period.{Period}
-use Rattle.ledger.specs.declared.ClassHighest.{ClassHighest}
 use Rattle.ledger.specs.declared.Day.{Day}
+use Rattle.day_words.specs.Again.{cell_again, class_again}
 use Rattle.day_words.specs.Words.{
+  ReadsAgain,
   words_of_each,
   cell_words,
   period_words,
@@ -38,6 +40,7 @@ use Rattle.day_words.specs.Words.{
   day_from,
   Narrow,
   FourLimbs,
+  AnyLevel,
   PeriodFits,
   DayFits,
   InverseLaw,
@@ -72,19 +75,18 @@ length_words_of_each f width [] e = omega arith
 length_words_of_each f width (x ∷ xs) e = rw (length-append, length_words_of_each f width xs e.1, e.0) (omega arith)
 
 -- such a list is read from where it stands, if each entry is
-module _ {A : Type 0} (words : List ℕ) (f : A → List ℕ) (width : ℕ) (from : ℕ → A)
-    (one : (x : A) (at : ℕ) (rest : List ℕ) → length (f x) ≡ width → Stands words at (f x) rest → from at ≡ x) where
-  entries : (at : ℕ) (xs : List A) (rest : List ℕ) → Wide f width xs → Stands words at (words_of_each f xs) rest
-      → {count : ℕ} → length xs ≡ count → read_each from width at count ≡ xs
+module _ {A : Type 0} (words : List ℕ) (f : A → List ℕ) (width : ℕ) (from : List ℕ → ℕ → A) (Fits : A → Type 0) (again : ReadsAgain f from Fits) where
+  entries : (at : ℕ) (xs : List A) (rest : List ℕ) → Each Fits xs → Wide f width xs → Stands words at (words_of_each f xs) rest
+      → {count : ℕ} → length xs ≡ count → read_each (from words) width at count ≡ xs
   unfolding read_each
-  entries at xs rest e s h = ap (read_each from width at) (sym h) ∙ go at xs e s
+  entries at xs rest h e s n = ap (read_each (from words) width at) (sym n) ∙ go at xs h e s
     where
-      go : (at : ℕ) (xs : List A) → Wide f width xs → Stands words at (words_of_each f xs) rest → read_each from width at (length xs) ≡ xs
-      go at [] e s = refl
-      go at (x ∷ xs) e s =
+      go : (at : ℕ) (xs : List A) → Each Fits xs → Wide f width xs → Stands words at (words_of_each f xs) rest → read_each (from words) width at (length xs) ≡ xs
+      go at [] h e s = refl
+      go at (x ∷ xs) h e s =
           let others = words_of_each f xs ++ rest in
           let first : Stands words at (f x) others = s ∙ append_assoc (f x) (words_of_each f xs) rest in
-          ap₂ ◌∷◌ (one x at others e.0 first) (go (at + width) xs e.1 (behind words at (f x) others first (at + width) (omega (arith, e.0))))
+          ap₂ ◌∷◌ (again x h.0 words at others first) (go (at + width) xs h.1 e.1 (behind words at (f x) others first (at + width) (omega (arith, e.0))))
 
 -- the cells of a period, each of 4 words
 pub length_cell_words : (cs : List Cell) → Each FourLimbs cs → length (cell_words cs) ≡ 4 * length cs
@@ -92,7 +94,7 @@ length_cell_words = length_words_of_each (λ c. c.energy) 4
 
 cells : (words : List ℕ) (at : ℕ) (cs : List Cell) (rest : List ℕ) → Each FourLimbs cs → Stands words at (cell_words cs) rest
     → {count : ℕ} → length cs ≡ count → cells_from words at count ≡ cs
-cells words = entries words (λ c. c.energy) 4 (cell_from words) (λ c at rest e s. ap (λ (l : List ℕ). record { energy = l }) (read words at c.energy rest s e))
+cells words at cs rest h = entries words (λ c. c.energy) 4 cell_from FourLimbs cell_again at cs rest h h
 
 -- what stands behind the flights of the book of a period, behind its accepted events, behind its cells
 abbrev behind_cells : Period → List ℕ → List ℕ
@@ -139,29 +141,27 @@ module _ (words : List ℕ) (at : ℕ) (p : Period) (f : PeriodFits p) (rest : L
   after = behind words (at + 132) p.highest rest highest_last (at + 136) (omega (arith, f.highest))
 
 -- so is a highest level, and the highest level of each class, of 2 words
-highest : (h : HighestLevel) (rest : List ℕ) → (let l = highest_words h ++ rest in highest_marked (get_or l 0 0) (get_or l 1 0)) ≡ h
-highest (highests.At l) rest = refl
-highest highests.Nothing rest = refl
+highest : (h : std.Option Level) (rest : List ℕ) → (let l = highest_words h ++ rest in highest_marked (get_or l 0 0) (get_or l 1 0)) ≡ h
+highest (Some l) rest = refl
+highest None rest = refl
 
-pub two_words : (h : HighestLevel) → length (highest_words h) ≡ 2
-two_words (highests.At l) = refl
-two_words highests.Nothing = refl
+pub two_words : (h : std.Option Level) → length (highest_words h) ≡ 2
+two_words (Some l) = refl
+two_words None = refl
 
-class_wide : (cs : List ClassHighest) → Wide (λ c. highest_words c.level) 2 cs
-class_wide = wide (λ c. highest_words c.level) (λ c. two_words c.level)
+class_wide : (cs : List (std.Option Level)) → Wide highest_words 2 cs
+class_wide = wide highest_words two_words
 
-pub length_class_words : (cs : List ClassHighest) → length (class_words cs) ≡ 2 * length cs
-length_class_words cs = length_words_of_each (λ c. highest_words c.level) 2 cs (class_wide cs)
+pub length_class_words : (cs : List (std.Option Level)) → length (class_words cs) ≡ 2 * length cs
+length_class_words cs = length_words_of_each highest_words 2 cs (class_wide cs)
 
-class_read : (words : List ℕ) (c : ClassHighest) (at : ℕ) (rest : List ℕ) → Stands words at (highest_words c.level) rest → class_from words at ≡ c
-class_read words c at rest s =
-    let word : (i : ℕ) → get_or words (at + i) 0 ≡ get_or (highest_words c.level ++ rest) i 0 = λ i. sym (get_or-drop at words i 0) ∙ ap (λ (l : List ℕ). get_or l i 0) s in
-    let mark = ap (λ (n : ℕ). get_or words n 0) (sym (add-zero at)) ∙ word 0 in
-    ap (λ (h : HighestLevel). record { level = h }) (rw (mark, word 1) (highest c.level rest))
+any_levels : (cs : List (std.Option Level)) → Each AnyLevel cs
+any_levels [] = tt
+any_levels (c ∷ cs) = (tt, any_levels cs)
 
-classes : (words : List ℕ) (at : ℕ) (cs : List ClassHighest) (rest : List ℕ) → Stands words at (class_words cs) rest
+classes : (words : List ℕ) (at : ℕ) (cs : List (std.Option Level)) (rest : List ℕ) → Stands words at (class_words cs) rest
     → {count : ℕ} → length cs ≡ count → classes_from words at count ≡ cs
-classes words at cs rest = entries words (λ c. highest_words c.level) 2 (class_from words) (λ c at rest e. class_read words c at rest) at cs rest (class_wide cs)
+classes words at cs rest = entries words highest_words 2 class_from AnyLevel class_again at cs rest (any_levels cs) (class_wide cs)
 
 -- so is a rate
 rate : (r : Rate) → rate_from (rate_word r) ≡ r

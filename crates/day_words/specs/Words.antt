@@ -1,11 +1,10 @@
 -- A day as 320 words of 32 bits: for each period the flights of the book and the accepted events by class, the limbs of its 24 cells, and those of its lowest
 -- and of its highest energy; then the number of classes, the end, whether there is a highest level, and that level; for each class the same of its own highest
 -- level; the settings; then words that are 0.
-use Rattle.std.specs.Prelude.{cond, List, [], ◌∷◌, ◌++◌, map, ℕ, zero, suc, ◌+◌, ◌%◌, ◌<◌, ◌≡◌, eqb, length, take, drop, get_or, replicate}
+use Rattle.std.specs.Prelude.{cond, List, [], ◌∷◌, ◌++◌, map, ℕ, zero, suc, ◌+◌, ◌%◌, ◌<◌, ◌≡◌, eqb, length, take, drop, get_or, replicate, Option, Some, None}
 use Rattle.quantity.specs.Instants.{instant_at}
 use Rattle.quantity.specs.Lists.{Each}
-use Rattle.quantity.specs.declared.HighestLevel.{HighestLevel}
-use Rattle.quantity.specs.declared.HighestLevel.TheVariants as highests
+use Rattle.quantity.specs.declared.Level.{Level}
 use Rattle.clock.specs.Clock.{hours, tick_at}
 use Rattle.clock.specs.declared.Rate.{Rate}
 use Rattle.clock.specs.declared.Rate.TheVariants.{Ten, Twenty, Forty}
@@ -15,7 +14,6 @@ use Rattle.admission.specs.Checks.{Offering}
 use Rattle.offering.specs.Offer.{offered}
 use Rattle.ledger.specs.declared.Cell.{Cell}
 use Rattle.ledger.specs.declared.Period.{Period}
-use Rattle.ledger.specs.declared.ClassHighest.{ClassHighest}
 use Rattle.ledger.specs.declared.Day.{Day}
 
 abbrev pub word_count : ℕ
@@ -26,6 +24,14 @@ abbrev pub words_of_each : {A : Type 0} → (A → List ℕ) → List A → List
 words_of_each words [] = []
 words_of_each words (x ∷ xs) = words x ++ words_of_each words xs
 
+-- what is put into words is read from them again, wherever they stand
+abbrev pub ReadsAgain : {A : Type 0} → (A → List ℕ) → (List ℕ → ℕ → A) → (A → Type 0) → Type 0
+ReadsAgain {A} to_words from_words Fits = (x : A) → Fits x → (words : List ℕ) (at : ℕ) (rest : List ℕ) → drop at words ≡ to_words x ++ rest → from_words words at ≡ x
+
+-- a count: a word
+abbrev pub count_words : ℕ → List ℕ
+count_words n = n ∷ []
+
 -- W-208: the energy of each clock hour: 4 words an hour
 abbrev pub cell_words : List Cell → List ℕ
 cell_words = words_of_each (λ c. c.energy)
@@ -35,17 +41,17 @@ abbrev pub period_words : Period → List ℕ
 period_words p = p.booked ++ (p.accepted ++ (cell_words p.cells ++ (p.lowest ++ p.highest)))
 
 -- the highest level: 1 and the level, or 0 and 0
-abbrev pub highest_words : HighestLevel → List ℕ
-highest_words (highests.At l) = 1 ∷ l.0 ∷ []
-highest_words highests.Nothing = 0 ∷ 0 ∷ []
+abbrev pub highest_words : Option Level → List ℕ
+highest_words (Some l) = 1 ∷ l.0 ∷ []
+highest_words None = 0 ∷ 0 ∷ []
 
 -- the rest of a day: 4 words
 abbrev pub rest_words : Day → List ℕ
 rest_words d = d.classes ∷ d.end.0 ∷ highest_words d.highest
 
 -- the highest level of each class: 2 words a class
-abbrev pub class_words : List ClassHighest → List ℕ
-class_words = words_of_each (λ c. highest_words c.level)
+abbrev pub class_words : List (Option Level) → List ℕ
+class_words = words_of_each highest_words
 
 -- W-202: the settings: 3 words, of which the first tells the rate
 abbrev pub rate_word : Rate → ℕ
@@ -79,6 +85,9 @@ read_each read width at zero = []
 read_each read width at (suc k) = read at ∷ read_each read width (at + width) k
 
 -- the day that any 320 words stand for
+abbrev pub count_from : List ℕ → ℕ → ℕ
+count_from words at = get_or words at 0 % 65536
+
 abbrev pub cell_from : List ℕ → ℕ → Cell
 cell_from words at = record { energy = words_at words at 4 }
 
@@ -95,13 +104,13 @@ period_from words at =
       highest = words_at words (at + 132) 4;
     }
 
-abbrev pub highest_marked : (mark level : ℕ) → HighestLevel
-highest_marked mark level = cond (eqb mark 0) highests.Nothing (highests.At (record { 0 = level }))
+abbrev pub highest_marked : (mark level : ℕ) → Option Level
+highest_marked mark level = cond (eqb mark 0) None (Some (record { 0 = level }))
 
-abbrev pub class_from : List ℕ → ℕ → ClassHighest
-class_from words at = record { level = highest_marked (get_or words at 0) (get_or words (at + 1) 0) }
+abbrev pub class_from : List ℕ → ℕ → Option Level
+class_from words at = highest_marked (get_or words at 0) (get_or words (at + 1) 0)
 
-abbrev pub classes_from : List ℕ → (at count : ℕ) → List ClassHighest
+abbrev pub classes_from : List ℕ → (at count : ℕ) → List (Option Level)
 classes_from words = read_each (class_from words) 2
 
 -- a word that names no rate stands for the fastest
@@ -125,11 +134,17 @@ day_from words =
     }
 
 -- a day whose lists have the places of their arrays, whose classes fit into 8 bits and whose counts into 16, as every day has that a program holds
+abbrev pub NarrowCount : ℕ → Type 0
+NarrowCount n = n < 65536
+
 abbrev pub Narrow : List ℕ → Type 0
-Narrow counts = (i : ℕ) → get_or counts i 0 < 65536
+Narrow counts = (i : ℕ) → NarrowCount (get_or counts i 0)
 
 abbrev pub FourLimbs : Cell → Type 0
 FourLimbs c = length c.energy ≡ 4
+
+abbrev pub AnyLevel : Option Level → Type 0
+AnyLevel h = Unit {0}
 
 pub record PeriodFits (p : Period) : Type 0 where
   pub booked : length p.booked ≡ 16

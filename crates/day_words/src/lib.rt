@@ -2,32 +2,35 @@
 // very day.
 #![tactic(auto)]
 
-ghost use Rattle.std.specs.Prelude.{◌≡◌, ◌+◌, ◌%◌, ◌≤◌, length};
+ghost use Rattle.std.specs.Prelude.{◌≡◌, List, ℕ, ◌+◌, ◌*◌, ◌≤◌, length};
 ghost use Rattle.runs.specs.Put.{Put};
+ghost use Rattle.day_words.specs.Again.{count_again, cell_again, class_again};
 ghost use Rattle.day_words.specs.Words.{
+  ReadsAgain,
+  NarrowCount,
+  FourLimbs,
+  AnyLevel,
   word_count,
-  cell_words,
+  words_of_each,
+  count_words,
   period_words,
   highest_words,
-  rest_words,
-  class_words,
-  rate_word,
   settings_words,
   day_words,
   words_at,
-  counts_at,
-  cells_from,
+  read_each,
+  count_from,
+  cell_from,
+  class_from,
   period_from,
-  highest_marked,
-  classes_from,
   rate_from,
   settings_from,
   day_from,
 };
 
 use clock::{Rate, Settings};
-use ledger::{Cell, ClassHighest, Day, Period};
-use quantity::{HighestLevel, Instant, Level, Tick};
+use ledger::{Cell, Day, Period};
+use quantity::{Instant, Level, Tick};
 
 // The words of a day. Those behind the last that is used are 0; fields to come take their places there.
 pub const DAY_WORDS: usize = 320;
@@ -50,147 +53,168 @@ const CLASSES: usize = 272;
 
 const END: usize = 273;
 
-const HIGHEST_MARK: usize = 274;
-
-const HIGHEST: usize = 275;
+const HIGHEST: usize = 274;
 
 const HIGHEST_BY_CLASS: usize = 276;
 
 const SETTINGS: usize = 308;
 
-// The limbs of a cell: an array of its own, so that its length is known where it is lent.
-fn limbs_of(cell: Cell) -> [u32; 4]
-    ensures { result ≡ cell.energy }
-{
-    cell.energy
+const UNUSED: usize = DAY_WORDS - SETTINGS - 3;
+
+// What stands in a day in a number of its own, each in the same number of words.
+trait Entry: Copy {
+    ghost WIDTH: { ℕ };
+
+    const WIDTH: usize;
+
+    ghost to_words: { Self → List ℕ };
+
+    ghost from_words: { List ℕ → ℕ → Self };
+
+    ghost Fits: { Self → Type 0 };
+
+    // Puts its words, and gives the place behind them.
+    fn put(self, words: &mut [u32], at: usize) -> usize
+        requires { at + WIDTH ≤ length words.old }
+        ensures put { Put words.old at (to_words self) words.new result }
+        ensures place { result ≡ at + WIDTH };
+
+    // The entry that the words at a place stand for.
+    fn read(words: &[u32], at: usize) -> Self
+        requires { at + WIDTH ≤ length words.now }
+        ensures { result ≡ from_words words.now at };
+
+    ghost again: { ReadsAgain to_words from_words Fits };
 }
 
-// Puts the energies of the clock hours, 96 words.
-fn put_cells(words: &mut [u32], at: usize, cells: [Cell; 24]) -> usize
-    requires { at + 96 ≤ length words.old }
-    ensures put { Put words.old at (cell_words cells) words.new result }
-    ensures place { result ≡ at + 96 }
-{
-    let mut place = at;
-    let mut i = 0;
-    while i < 24 {
-        let cell = cells[i];
-        let limbs = limbs_of(cell);
-        place = runs::put_words(words, place, &limbs);
-        i += 1;
+// A count of 16 bits; a word stands for its lowest 16.
+impl Entry for u16 {
+    ghost WIDTH = { 1 };
+
+    const WIDTH: usize = 1;
+
+    ghost to_words = { count_words };
+
+    ghost from_words = { count_from };
+
+    ghost Fits = { NarrowCount };
+
+    ghost again = { count_again };
+
+    fn put(self, words: &mut [u32], at: usize) -> usize {
+        words[at] = u32::from(self);
+        at + 1
     }
-    place
+
+    fn read(words: &[u32], at: usize) -> u16 {
+        (words[at] % 65536) as u16
+    }
 }
 
-// Puts a period, 136 words.
-fn put_period(words: &mut [u32; 320], at: usize, period: Period) -> usize
-    requires { at + 136 ≤ word_count }
-    ensures put { Put words.old at (period_words period) words.new result }
-    ensures place { result ≡ at + 136 }
-{
-    let booked = period.booked;
-    let accepted = period.accepted;
-    let cells = period.cells;
-    let lowest = period.lowest;
-    let highest = period.highest;
-    let first = runs::put_counts(words, at, &booked);
-    let second = runs::put_counts(words, first, &accepted);
-    let third = put_cells(words, second, cells);
-    let fourth = runs::put_words(words, third, &lowest);
-    runs::put_words(words, fourth, &highest)
+impl Entry for Cell {
+    ghost WIDTH = { 4 };
+
+    const WIDTH: usize = 4;
+
+    ghost to_words = { λ c. c.energy };
+
+    ghost from_words = { cell_from };
+
+    ghost Fits = { FourLimbs };
+
+    ghost again = { cell_again };
+
+    fn put(self, words: &mut [u32], at: usize) -> usize {
+        runs::put(words, at, &self.energy)
+    }
+
+    fn read(words: &[u32], at: usize) -> Cell {
+        Cell {
+            energy: limbs_at(words, at),
+        }
+    }
 }
 
 // A highest level: whether there is one, and that level.
-fn highest_words(highest: HighestLevel) -> [u32; 2]
-    ensures { result ≡ highest_words highest }
-{
-    match highest {
-        HighestLevel::Nothing => [0, 0],
-        HighestLevel::At(level) => [1, level.0],
+impl Entry for Option<Level> {
+    ghost WIDTH = { 2 };
+
+    const WIDTH: usize = 2;
+
+    ghost to_words = { highest_words };
+
+    ghost from_words = { class_from };
+
+    ghost Fits = { AnyLevel };
+
+    ghost again = { class_again };
+
+    fn put(self, words: &mut [u32], at: usize) -> usize {
+        match self {
+            None => runs::put(words, at, &[0, 0]),
+            Some(level) => runs::put(words, at, &[1, level.0]),
+        }
+    }
+
+    fn read(words: &[u32], at: usize) -> Option<Level> {
+        (words[at] != 0).then_some(Level(words[at + 1]))
     }
 }
 
-// The four words behind the periods.
-fn rest_of(day: Day) -> [u32; 4]
-    ensures { result ≡ rest_words day }
+// Puts the words of entries, one behind the other.
+fn put_each<T: Entry>(words: &mut [u32], at: usize, entries: &[T]) -> usize
+    requires { at + T.WIDTH * length entries.now ≤ length words.old }
+    ensures put { Put words.old at (words_of_each T.to_words entries.now) words.new result }
+    ensures place { result ≡ at + T.WIDTH * length entries.now }
 {
-    let so_far = day.highest;
-    let highest = highest_words(so_far);
-    [day.classes as u32, day.end.0, highest[0], highest[1]]
+    for (i, entry) in entries.iter().enumerate() {
+        entry.put(words, at + T::WIDTH * i);
+    }
+    at + T::WIDTH * entries.len()
 }
 
-// Puts the highest level of each class, 32 words.
-fn put_classes(words: &mut [u32], at: usize, levels: [ClassHighest; 16]) -> usize
-    requires { at + 32 ≤ length words.old }
-    ensures put { Put words.old at (class_words levels) words.new result }
-    ensures place { result ≡ at + 32 }
+// Reads entries that stand one behind the other from a place on.
+fn read_each<T: Entry>(words: &[u32], at: usize, entries: &mut [T])
+    requires { at + T.WIDTH * length entries.old ≤ length words.now }
+    ensures { entries.new ≡ read_each (T.from_words words.now) T.WIDTH at (length entries.old) }
 {
-    let mut place = at;
-    let mut i = 0;
-    while i < 16 {
-        let class = levels[i];
-        let highest = class.level;
-        let pair = highest_words(highest);
-        place = runs::put_words(words, place, &pair);
-        i += 1;
+    for (i, entry) in entries.iter_mut().enumerate() {
+        *entry = T::read(words, at + T::WIDTH * i);
     }
-    place
 }
 
-fn rate_word(rate: Rate) -> u32
-    ensures { result ≡ rate_word rate }
+// Puts a period, 136 words. Inlined: a call of it takes 71 instructions more.
+#[inline(always)]
+fn put_period(words: &mut [u32; 320], at: usize, period: &Period) -> usize
+    requires { at + 136 ≤ word_count }
+    ensures put { Put words.old at (period_words period.now) words.new result }
+    ensures place { result ≡ at + 136 }
 {
-    match rate {
-        Rate::Ten => 0,
-        Rate::Twenty => 1,
-        Rate::Forty => 2,
-    }
+    let accepted = put_each(words, at, &period.booked);
+    let cells = put_each(words, accepted, &period.accepted);
+    let lowest = put_each(words, cells, &period.cells);
+    let highest = runs::put(words, lowest, &period.lowest);
+    runs::put(words, highest, &period.highest)
 }
 
 // The settings: the rate, and the first and the last daytime tick.
 fn settings_words(settings: Settings) -> [u32; 3]
     ensures { result ≡ settings_words settings }
 {
-    let rate = settings.rate;
-    [rate_word(rate), settings.first.0, settings.last.0]
+    [settings.rate as u32, settings.first.0, settings.last.0]
 }
 
 // Writes the words of a day.
 pub fn encode(day: Day, words: &mut [u32; 320])
     ensures { words.new ≡ day_words day }
 {
-    let daytime = day.daytime;
-    let night = day.night;
-    let rest = rest_of(day);
-    let levels = day.highest_by_class;
-    let kept = day.settings;
-    let settings = settings_words(kept);
-    *words = [0u32; 320];
-    let first = put_period(words, DAYTIME, daytime);
-    let second = put_period(words, first, night);
-    let third = runs::put_words(words, second, &rest);
-    let fourth = put_classes(words, third, levels);
-    runs::put_words(words, fourth, &settings);
-}
-
-fn narrow(word: u32) -> u16
-    ensures { result ≡ word % 65536 }
-{
-    (word % 65536) as u16
-}
-
-// The sixteen counts at a place, each word modulo 2^16.
-fn counts_at(words: &[u32], at: usize) -> [u16; 16]
-    requires { at + 16 ≤ length words.now }
-    ensures { result ≡ counts_at words.now at 16 }
-{
-    let mut counts = [0u16; 16];
-    let mut i = 0;
-    while i < 16 {
-        counts[i] = narrow(words[at + i]);
-        i += 1;
-    }
-    counts
+    let night = put_period(words, DAYTIME, &day.daytime);
+    let classes = put_period(words, night, &day.night);
+    let highest = runs::put(words, classes, &[day.classes as u32, day.end.0]);
+    let by_class = day.highest.put(words, highest);
+    let settings = put_each(words, by_class, &day.highest_by_class);
+    let unused = runs::put(words, settings, &settings_words(day.settings));
+    runs::put(words, unused, &[0; UNUSED]);
 }
 
 // The four limbs at a place.
@@ -201,73 +225,33 @@ fn limbs_at(words: &[u32], at: usize) -> [u32; 4]
     [words[at], words[at + 1], words[at + 2], words[at + 3]]
 }
 
-// The energies of the clock hours, from a place on.
-fn cells_at(words: &[u32], at: usize) -> [Cell; 24]
-    requires { at + 96 ≤ length words.now }
-    ensures { result ≡ cells_from words.now at 24 }
-{
-    let mut cells = ledger::empty_cells();
-    let mut i = 0;
-    while i < 24 {
-        cells[i] = Cell {
-            energy: limbs_at(words, at + 4 * i),
-        };
-        i += 1;
-    }
-    cells
-}
-
 // The period at a place.
 fn period_at(words: &[u32], at: usize) -> Period
     requires { at + 136 ≤ length words.now }
     ensures { result ≡ period_from words.now at }
 {
-    Period {
-        booked: counts_at(words, at),
-        accepted: counts_at(words, at + ACCEPTED),
-        cells: cells_at(words, at + CELLS),
+    let mut period = Period {
+        booked: [0; 16],
+        accepted: [0; 16],
+        cells: ledger::empty_cells(),
         lowest: limbs_at(words, at + LOWEST),
         highest: limbs_at(words, at + HIGHEST_ENERGY),
-    }
+    };
+    read_each(words, at, &mut period.booked);
+    read_each(words, at + ACCEPTED, &mut period.accepted);
+    read_each(words, at + CELLS, &mut period.cells);
+    period
 }
 
-fn highest_from(mark: u32, level: u32) -> HighestLevel
-    ensures { result ≡ highest_marked mark level }
-{
-    if mark == 0 {
-        return HighestLevel::Nothing;
-    }
-    HighestLevel::At(Level(level))
-}
-
-// The highest Lmax of each class, from a place on.
-fn classes_at(words: &[u32], at: usize) -> [ClassHighest; 16]
-    requires { at + 32 ≤ length words.now }
-    ensures { result ≡ classes_from words.now at 16 }
-{
-    let mut levels = ledger::none_by_class();
-    let mut i = 0;
-    while i < 16 {
-        let place = at + 2 * i;
-        levels[i] = ClassHighest {
-            level: highest_from(words[place], words[place + 1]),
-        };
-        i += 1;
-    }
-    levels
-}
-
-// The rate that a word stands for: a word above 1 stands for the fastest.
+// The rate that a word stands for: a word above 1 stands for the fastest. No TryFrom, since every word is a rate.
 fn rate_from(word: u32) -> Rate
     ensures { result ≡ rate_from word }
 {
-    if word == 0 {
-        return Rate::Ten;
+    match word {
+        0 => Rate::Ten,
+        1 => Rate::Twenty,
+        _ => Rate::Forty,
     }
-    if word == 1 {
-        return Rate::Twenty;
-    }
-    Rate::Forty
 }
 
 // The settings at a place.
@@ -286,13 +270,15 @@ fn settings_at(words: &[u32], at: usize) -> Settings
 pub fn decode(words: &[u32; 320]) -> Day
     ensures { result ≡ day_from words.now }
 {
+    let mut highest_by_class = ledger::none_by_class();
+    read_each(words, HIGHEST_BY_CLASS, &mut highest_by_class);
     Day {
         settings: settings_at(words, SETTINGS),
         classes: (words[CLASSES] % 256) as u8,
         daytime: period_at(words, DAYTIME),
         night: period_at(words, NIGHT),
         end: Instant(words[END]),
-        highest: highest_from(words[HIGHEST_MARK], words[HIGHEST]),
-        highest_by_class: classes_at(words, HIGHEST_BY_CLASS),
+        highest: Entry::read(words, HIGHEST),
+        highest_by_class,
     }
 }

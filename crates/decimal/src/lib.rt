@@ -32,7 +32,7 @@ fn put_within(n: u64, most: usize, out: &mut [u8; 20]) -> usize
     count + 1
 }
 
-// Puts a number's digits at the front of a buffer, and gives their count.
+// Puts a number's digits at the front of a buffer, and gives their count: a slice of them could not say that the rest of the buffer stays.
 pub fn put_digits(n: u64, out: &mut [u8; 20]) -> usize
     ensures in_bounds { IsPrefixLen result out.new }
     ensures fewest { (m : ℕ) → 0 < m → n < 10 ^ m → result ≤ m }

@@ -8,5 +8,5 @@ ghost use Rattle.floats.specs.Arithmetic.{within};
 pub fn is_within(low: f64, high: f64, x: f64) -> bool
     ensures { result ≡ within low high x }
 {
-    if low <= x { x <= high } else { false }
+    low <= x && x <= high
 }

@@ -1,11 +1,19 @@
--- Answers that are searched one after the other, and a byte that is searched from a place on.
-use Rattle.std.proofs.Common.{◌≡◌, ℕ, suc, ◌+◌, ◌-◌, ◌<◌, ◌≤◌, Bool, true, false, ◌&&◌, eqb, List, [], ◌∷◌, length, get_or, take, drop, sym, refl, ap, ◌∙◌, arith, length-drop, drop_of_length-le, drop-cons, drop-drop, eq-eqb, ne_eqb}
+-- The bytes before the first of a kind in the words of the library, and the answers as the parts between the separators.
+use Rattle.std.proofs.Common.{◌≡◌, ℕ, ◌≤◌, Bool, ◌&&◌, eqb, ltb, List, [], ◌∷◌, Option, length, take, refl, ap, arith}
+use Rattle.std.specs.List.{position, position_or_len, slice_split, list_any}
+use Rattle.std.specs.Option.{unwrap_or}
+use Rattle.std.proofs.lemmas.Bool.{ltb-false}
 use lib.Pointwise.{pointwise}
 use Rattle.quantity.proofs.Tests.{test}
 use Rattle.judging.specs.Judging.{up_to, same, is_later, is_one_of}
 
 module _ (byte : ℕ) where
-  pub up_to_within : (xs : List ℕ) → length (up_to byte xs) ≤ length xs
+  up_to_is : (xs : List ℕ) → position_or_len (λ b. eqb b byte) xs ≡ length (up_to byte xs)
+  unfolding up_to
+  up_to_is [] = refl
+  up_to_is (x ∷ xs) = test (eqb x byte) (λ t. rw t) (λ t. rw (t, up_to_is xs) (omega arith))
+
+  up_to_within : (xs : List ℕ) → length (up_to byte xs) ≤ length xs
   unfolding up_to
   up_to_within [] = omega arith
   up_to_within (x ∷ xs) = test (eqb x byte) (λ t. rw t (omega arith)) (λ t. rw t (omega (arith, up_to_within xs)))
@@ -15,27 +23,10 @@ module _ (byte : ℕ) where
   up_to_taken [] = refl
   up_to_taken (x ∷ xs) = test (eqb x byte) (λ t. rw t) (λ t. rw t (ap (λ (l : List ℕ). x ∷ l) (up_to_taken xs)))
 
-  -- the search at i: the byte is there, it is not there, and nothing is left
-  module _ (xs : List ℕ) (i : ℕ) where
-    pub found : i < length xs → get_or xs i 0 ≡ byte → length (up_to byte (drop i xs)) ≡ 0
-    unfolding up_to
-    found h e = rw (drop-cons xs i 0 h, eq-eqb (get_or xs i 0) byte e)
-
-    pub passed : i < length xs → (get_or xs i 0 ≡ byte → ⊥) → length (up_to byte (drop i xs)) ≡ suc (length (up_to byte (drop (suc i) xs)))
-    unfolding up_to
-    passed h e = rw (drop-cons xs i 0 h, ne_eqb (get_or xs i 0) byte e)
-
-    pub ended : length xs ≤ i → length (up_to byte (drop i xs)) ≡ 0
-    unfolding up_to
-    ended h = rw (drop_of_length-le xs {i = i} h)
-
-  -- where the search from a place on ends
-  module _ (xs : List ℕ) (from to : ℕ) (reached : to ≡ from + length (up_to byte (drop from xs))) where
-    pub reached_within : from ≤ length xs → to ≤ length xs
-    reached_within h = omega (arith, up_to_within (drop from xs), length-drop from xs)
-
-    pub reached_part : take (to - from) (drop from xs) ≡ up_to byte (drop from xs)
-    reached_part = let e : to - from ≡ length (up_to byte (drop from xs)) = omega arith in rw e (up_to_taken (drop from xs))
+  pub first_place : (xs : List ℕ) (r : Option ℕ) → r ≡ position (λ b. eqb b byte) xs → unwrap_or r (length xs) ≡ length (up_to byte xs)
+  first_place xs r e =
+      let n = length (up_to byte xs) in
+      rw (e, up_to_is xs) (test (ltb n (length xs)) (λ t. rw t) (λ t. rw t (omega (arith, up_to_within xs, ltb-false n (length xs) t))))
 
 -- what `==` answers at two runs of bytes
 same_is : (xs ys : List ℕ) → pointwise eqb xs ys ≡ same xs ys
@@ -45,36 +36,22 @@ same_is [] (y ∷ ys) = refl
 same_is (x ∷ xs) [] = refl
 same_is (x ∷ xs) (y ∷ ys) = ap (λ (b : Bool). eqb x y && b) (same_is xs ys)
 
--- the answers behind the first
+abbrev pub is_bar : ℕ → Bool
+is_bar b = eqb b 124
+
+-- the answers are the parts between the separators: the first, and those behind it
 module _ (came : List ℕ) where
-  pub no_later : (xs : List ℕ) → length (up_to 124 xs) ≡ length xs → is_later came xs ≡ false
+  abbrev pub is_this : List ℕ → Bool
+  is_this answer = pointwise eqb came answer
+
+  first_part : (xs : List ℕ) → (rest : List (List ℕ)) × (slice_split is_bar xs ≡ up_to 124 xs ∷ rest) × (list_any is_this rest ≡ is_later came xs)
   unfolding up_to is_later
-  no_later [] h = refl
-  no_later (x ∷ xs) h = test (eqb x 124) (λ t. absurd (omega (arith, rw t at h))) (λ t. rw t (no_later xs (omega (arith, rw t at h))))
+  first_part [] = ([], refl, refl)
+  first_part (x ∷ xs) =
+      let (rest, e, l) = first_part xs in
+      test (eqb x 124)
+      (λ t. (slice_split is_bar xs, rw t, rw (t, e, l, same_is came (up_to 124 xs))))
+      (λ t. (rest, rw (t, e), rw (t, l)))
 
-  pub later : (xs : List ℕ) → length (up_to 124 xs) < length xs → is_later came xs ≡ is_one_of came (drop (suc (length (up_to 124 xs))) xs)
-  unfolding up_to is_later
-  later [] h = absurd (omega arith)
-  later (x ∷ xs) h = test (eqb x 124) (λ t. rw t) (λ t. rw t (later xs (omega (arith, rw t at h))))
-
--- `is_one_of` at a turn: the answer from a place up to another is compared, and it is not the last where the other place is before the end
-module _ (came answers : List ℕ) (from to : ℕ) (reached : to ≡ from + length (up_to 124 (drop from answers))) (within : from ≤ length answers) where
-  module _ (r : Bool) (told : r ≡ pointwise eqb came (take (to - from) (drop from answers)))
-      (left : is_one_of came (drop from answers) ≡ is_one_of came answers) where
-    first : same came (up_to 124 (drop from answers)) ≡ r
-    first = sym (told ∙ same_is came (take (to - from) (drop from answers)) ∙ ap (λ (l : List ℕ). same came l) (reached_part 124 answers from to reached))
-
-    pub is_this : r ≡ true → true ≡ is_one_of came answers
-    is_this h = rw (first ∙ h) at left
-
-    pub is_none : r ≡ false → to ≡ length answers → false ≡ is_one_of came answers
-    is_none h last =
-        let all : length (up_to 124 (drop from answers)) ≡ length (drop from answers) = omega (arith, length-drop from answers) in
-        rw (first ∙ h, no_later came (drop from answers) all) at left
-
-    pub is_later_lem : r ≡ false → (to ≡ length answers → ⊥) → (to + 1 ≤ length answers) × (is_one_of came (drop (to + 1) answers) ≡ is_one_of came answers)
-    is_later_lem h more =
-        let less : to < length answers = omega (arith, reached_within 124 answers from to reached within) in
-        let some : length (up_to 124 (drop from answers)) < length (drop from answers) = omega (arith, length-drop from answers) in
-        let e : from + suc (length (up_to 124 (drop from answers))) ≡ to + 1 = omega arith in
-        (omega arith, rw (first ∙ h, later came (drop from answers) some, drop-drop, e) at left)
+  pub any_part : (xs : List ℕ) → list_any is_this (slice_split is_bar xs) ≡ is_one_of came xs
+  any_part xs = let (rest, e, l) = first_part xs in rw (e, l, same_is came (up_to 124 xs))

@@ -26,7 +26,7 @@ ghost use Rattle.land.specs.Verdict.{
   verdict_of,
 };
 
-use quantity::{HighestLevel, Level, Reading, Refusal};
+use quantity::{Level, Reading, Refusal};
 
 // Lmax at a sensitive building is not above it.
 const HIGHEST_MAXIMUM: u32 = 9000;
@@ -38,27 +38,6 @@ pub enum LandClass {
     Two,
     Three,
     Four,
-}
-
-// The class of a land code, or refusal 15.
-#[derive(Clone, Copy)]
-pub enum LandClassAnswer {
-    Known(LandClass),
-    Refused(Refusal),
-}
-
-// The limit of a class for a year's level; class IV has none.
-#[derive(Clone, Copy)]
-pub enum Limit {
-    At(Level),
-    Nothing,
-}
-
-// How far a year's level stays below its limit, in hundredths of a decibel; negative where it is over.
-#[derive(Clone, Copy)]
-pub enum Margin {
-    Of(i32),
-    Nothing,
 }
 
 // What a verdict names.
@@ -75,100 +54,78 @@ pub enum Finding {
 #[derive(Clone, Copy)]
 pub struct Assessment {
     pub finding: Finding,
-    pub margin: Margin,
-}
-
-// A verdict, or refusal 15, 14 or 4.
-#[derive(Clone, Copy)]
-pub enum VerdictAnswer {
-    Given(Assessment),
-    Refused(Refusal),
+    pub margin: Option<i32>,
 }
 
 // The number of a class in document 01.
-pub fn class_number(class: LandClass) -> u8
-    ensures { result ≡ class_number class }
-{
-    match class {
-        LandClass::One => 1,
-        LandClass::Two => 2,
-        LandClass::Three => 3,
-        LandClass::Four => 4,
+impl From<LandClass> for u8 {
+    ghost from_gives = { λ class number. number ≡ class_number class };
+
+    fn from(class: LandClass) -> u8 {
+        match class {
+            LandClass::One => 1,
+            LandClass::Two => 2,
+            LandClass::Three => 3,
+            LandClass::Four => 4,
+        }
     }
 }
 
 // The class with a number.
-#[tactic(auto, unfolding(quantity::specs::Rules::first_of))]
-fn class_numbered(number: u8) -> LandClassAnswer
-    ensures { land_class_reading result ≡ land_class_of number }
-{
-    match number {
-        1 => LandClassAnswer::Known(LandClass::One),
-        2 => LandClassAnswer::Known(LandClass::Two),
-        3 => LandClassAnswer::Known(LandClass::Three),
-        4 => LandClassAnswer::Known(LandClass::Four),
-        _ => LandClassAnswer::Refused(Refusal::LandUnknown),
+impl TryFrom<u8> for LandClass {
+    type Error = Refusal;
+
+    ghost try_from_gives = { λ number class. land_class_reading class ≡ land_class_of number };
+
+    #[tactic(auto, unfolding(quantity::specs::Rules::first_of))]
+    fn try_from(number: u8) -> Result<LandClass, Refusal> {
+        match number {
+            1 => Ok(LandClass::One),
+            2 => Ok(LandClass::Two),
+            3 => Ok(LandClass::Three),
+            4 => Ok(LandClass::Four),
+            _ => Err(Refusal::LandUnknown),
+        }
     }
 }
 
 // The class of the land code of two ASCII bytes.
 #[tactic(auto, unfolding(crate::specs::Classes::class_of, quantity::specs::Rules::first_of))]
-pub fn land_class(letter: u8, digit: u8) -> LandClassAnswer
+pub fn land_class(letter: u8, digit: u8) -> Result<LandClass, Refusal>
     ensures { land_class_reading result ≡ land_class_of (class_of letter digit) }
 {
-    match letter {
-        b'R' => match digit {
-            b'0'..=b'9' => LandClassAnswer::Known(LandClass::One),
-            _ => LandClassAnswer::Refused(Refusal::LandUnknown),
-        },
-        b'A' => match digit {
-            b'1'..=b'2' => LandClassAnswer::Known(LandClass::Two),
-            b'3' | b'5'..=b'6' | b'8'..=b'9' => LandClassAnswer::Known(LandClass::One),
-            b'4' | b'7' => LandClassAnswer::Known(LandClass::Three),
-            _ => LandClassAnswer::Refused(Refusal::LandUnknown),
-        },
-        b'B' => match digit {
-            b'1'..=b'2' | b'9' => LandClassAnswer::Known(LandClass::Two),
-            b'3'..=b'4' => LandClassAnswer::Known(LandClass::Three),
-            _ => LandClassAnswer::Refused(Refusal::LandUnknown),
-        },
-        b'M' | b'W' => match digit {
-            b'0'..=b'9' => LandClassAnswer::Known(LandClass::Three),
-            _ => LandClassAnswer::Refused(Refusal::LandUnknown),
-        },
-        b'S' | b'U' => match digit {
-            b'0'..=b'9' => LandClassAnswer::Known(LandClass::Four),
-            _ => LandClassAnswer::Refused(Refusal::LandUnknown),
-        },
-        b'G' => match digit {
-            b'1' | b'3' => LandClassAnswer::Known(LandClass::Three),
-            b'2' => LandClassAnswer::Known(LandClass::Four),
-            _ => LandClassAnswer::Refused(Refusal::LandUnknown),
-        },
-        _ => LandClassAnswer::Refused(Refusal::LandUnknown),
+    match (letter, digit) {
+        (b'R', b'0'..=b'9') => Ok(LandClass::One),
+        (b'A', b'1'..=b'2') => Ok(LandClass::Two),
+        (b'A', b'3' | b'5'..=b'6' | b'8'..=b'9') => Ok(LandClass::One),
+        (b'A', b'4' | b'7') => Ok(LandClass::Three),
+        (b'B', b'1'..=b'2' | b'9') => Ok(LandClass::Two),
+        (b'B', b'3'..=b'4') => Ok(LandClass::Three),
+        (b'M' | b'W', b'0'..=b'9') => Ok(LandClass::Three),
+        (b'S' | b'U', b'0'..=b'9') => Ok(LandClass::Four),
+        (b'G', b'1' | b'3') => Ok(LandClass::Three),
+        (b'G', b'2') => Ok(LandClass::Four),
+        _ => Err(Refusal::LandUnknown),
     }
 }
 
 // The limit of table 1.
-pub fn limit_of(class: LandClass) -> Limit
+pub fn limit_of(class: LandClass) -> Option<Level>
     ensures { limit_reading result ≡ limit_of (class_number class) }
 {
     match class {
-        LandClass::One => Limit::At(Level(5700)),
-        LandClass::Two => Limit::At(Level(6200)),
-        LandClass::Three => Limit::At(Level(6700)),
-        LandClass::Four => Limit::Nothing,
+        LandClass::One => Some(Level(5700)),
+        LandClass::Two => Some(Level(6200)),
+        LandClass::Three => Some(Level(6700)),
+        LandClass::Four => None,
     }
 }
 
 // Whether the highest Lmax exceeds a bound.
-fn highest_exceeds(highest: HighestLevel, bound: u32) -> bool
+fn highest_exceeds(highest: Option<Level>, bound: u32) -> bool
     ensures { result ≡ exceeds (highest_reading highest) bound }
 {
-    match highest {
-        HighestLevel::At(level) => bound < level.0,
-        HighestLevel::Nothing => false,
-    }
+    highest.is_some_and(|level| bound < level.0)
 }
 
 // A limit minus a level.
@@ -180,70 +137,51 @@ fn difference(limit: u32, level: i32) -> i32
 }
 
 // Whether a margin is negative.
-fn is_negative(margin: Margin) -> bool
+fn is_negative(margin: Option<i32>) -> bool
     ensures { result ≡ negative (margin_reading margin) }
 {
-    match margin {
-        Margin::Of(m) => m < 0,
-        Margin::Nothing => false,
-    }
+    margin.is_some_and(|m| m < 0)
 }
 
 // Whether Lmax exceeds 90 dB at a sensitive building on land of class I or II.
-fn over_maximum(class: LandClass, sensitive: bool, highest: HighestLevel) -> bool
+fn over_maximum(class: LandClass, sensitive: bool, highest: Option<Level>) -> bool
     ensures { result ≡ over_maximum (class_number class) sensitive (highest_reading highest) }
 {
-    if class_number(class) <= 2 {
-        if sensitive {
-            highest_exceeds(highest, HIGHEST_MAXIMUM)
-        } else {
-            false
-        }
-    } else {
-        false
-    }
+    matches!(class, LandClass::One | LandClass::Two)
+        && sensitive
+        && highest_exceeds(highest, HIGHEST_MAXIMUM)
 }
 
 // What a verdict names where there is a limit.
 fn named(level: bool, maximum: bool) -> Finding
     ensures { finding_reading result ≡ over level maximum }
 {
-    if level {
-        if maximum {
-            Finding::Both
-        } else {
-            Finding::OverLevel
-        }
-    } else {
-        if maximum {
-            Finding::OverMaximum
-        } else {
-            Finding::Within
-        }
+    match (level, maximum) {
+        (true, true) => Finding::Both,
+        (true, false) => Finding::OverLevel,
+        (false, true) => Finding::OverMaximum,
+        (false, false) => Finding::Within,
     }
 }
 
 // The margin of a year's level to a limit, neither of them outside.
-fn margin_of(limit: Limit, yearly: Reading) -> Margin
+fn margin_of(limit: Option<Level>, yearly: Reading) -> Option<i32>
     requires { (exceeds (limit_reading limit) highest_day_level ≡ false) × (is_reading_outside (reading yearly) ≡ false) }
     ensures { margin_reading result ≡ margin_of (limit_reading limit) (reading yearly) }
 {
-    match limit {
-        Limit::Nothing => Margin::Nothing,
-        Limit::At(most) => match yearly {
-            Reading::At(level) => Margin::Of(difference(most.0, level.0)),
-            Reading::BelowScale => Margin::Nothing,
-        },
+    match (limit, yearly) {
+        (Some(most), Reading::At(level)) => Some(difference(most.0, level.0)),
+        _ => None,
     }
 }
 
 // What a verdict names, with a limit or without.
-fn finding_of(limit: Limit, margin: Margin, maximum: bool) -> Finding
+fn finding_of(limit: Option<Level>, margin: Option<i32>, maximum: bool) -> Finding
     ensures { finding_reading result ≡ finding_of (limit_reading limit) (margin_reading margin) maximum }
 {
     match limit {
-        Limit::Nothing => Finding::NoLimit,
-        Limit::At(_) => named(is_negative(margin), maximum),
+        None => Finding::NoLimit,
+        Some(_) => named(is_negative(margin), maximum),
     }
 }
 
@@ -253,42 +191,32 @@ fn assess(
     class: LandClass,
     yearly: Reading,
     sensitive: bool,
-    highest: HighestLevel,
-) -> VerdictAnswer
+    highest: Option<Level>,
+) -> Result<Assessment, Refusal>
     ensures { verdict_reading result ≡ verdict_of (class_number class) (reading yearly) sensitive (highest_reading highest) }
 {
     if quantity::is_reading_outside(yearly) {
-        return VerdictAnswer::Refused(Refusal::RecordLevelOutside);
+        return Err(Refusal::RecordLevelOutside);
     }
     if highest_exceeds(highest, quantity::HIGHEST_SAMPLE) {
-        return VerdictAnswer::Refused(Refusal::LevelTooHigh);
+        return Err(Refusal::LevelTooHigh);
     }
     let limit = limit_of(class);
     let margin = margin_of(limit, yearly);
     let finding = finding_of(limit, margin, over_maximum(class, sensitive, highest));
-    VerdictAnswer::Given(Assessment { finding, margin })
-}
-
-// The verdict on land whose class was looked up: a refusal there comes first.
-fn verdict_on(
-    land: LandClassAnswer,
-    yearly: Reading,
-    sensitive: bool,
-    highest: HighestLevel,
-) -> VerdictAnswer
-    ensures { verdict_reading result ≡ follow (land_class_reading land) refused (λ class. verdict_of class (reading yearly) sensitive (highest_reading highest)) }
-{
-    match land {
-        LandClassAnswer::Known(class) => assess(class, yearly, sensitive, highest),
-        LandClassAnswer::Refused(refusal) => VerdictAnswer::Refused(refusal),
-    }
+    Ok(Assessment { finding, margin })
 }
 
 // The verdict on land of the class with this number, for a year's level, a sensitive building or none, and the highest Lmax.
-pub fn verdict(class: u8, yearly: Reading, sensitive: bool, highest: HighestLevel) -> VerdictAnswer
+pub fn verdict(
+    class: u8,
+    yearly: Reading,
+    sensitive: bool,
+    highest: Option<Level>,
+) -> Result<Assessment, Refusal>
     ensures { verdict_reading result ≡ verdict_of class (reading yearly) sensitive (highest_reading highest) }
 {
-    verdict_on(class_numbered(class), yearly, sensitive, highest)
+    assess(LandClass::try_from(class)?, yearly, sensitive, highest)
 }
 
 // The verdict on land with this code.
@@ -297,9 +225,9 @@ pub fn verdict_of_code(
     digit: u8,
     yearly: Reading,
     sensitive: bool,
-    highest: HighestLevel,
-) -> VerdictAnswer
+    highest: Option<Level>,
+) -> Result<Assessment, Refusal>
     ensures { verdict_reading result ≡ verdict_of (class_of letter digit) (reading yearly) sensitive (highest_reading highest) }
 {
-    verdict_on(land_class(letter, digit), yearly, sensitive, highest)
+    assess(land_class(letter, digit)?, yearly, sensitive, highest)
 }

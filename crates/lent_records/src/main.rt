@@ -2,35 +2,34 @@
 // is compared with levels of document 01.
 #![tactic(auto)]
 
-use mean::{MeanAnswer, ReadAnswer};
-use quantity::{Check, DayAnswer, Method, Reading, SignedLevel};
-use std::io;
+use quantity::{DayAnswer, Method, Reading, Refusal, SignedLevel};
 use std::io::Write;
+use std::{fmt, io};
 
-fn week_of_7(days: [DayAnswer; 7]) -> MeanAnswer {
-    mean::week_mean(&days)
-}
-
-fn year_of_366(days: [DayAnswer; 366]) -> MeanAnswer {
-    mean::year_mean(&days)
-}
-
-fn year_of_367(days: [DayAnswer; 367]) -> MeanAnswer {
-    mean::year_mean(&days)
-}
-
-// The answer to a rewriting, and the record that is read afterwards.
+// A level as it is printed: '-' below scale.
 #[derive(Clone, Copy)]
-struct ReadBack {
-    answer: Check,
-    read: ReadAnswer,
+struct Shown(Reading);
+
+impl fmt::Display for Shown {
+    fn fmt<W: fmt::Write>(&self, f: &mut fmt::Formatter<W>) -> fmt::Result {
+        match self.0 {
+            Reading::At(level) => write!(f, "{}", level.0),
+            Reading::BelowScale => f.write_str("-"),
+        }
+    }
 }
 
-fn rewrite_and_read(days: [DayAnswer; 7], place: usize, new: DayAnswer, at: usize) -> ReadBack {
-    let mut next = days;
-    let answer = mean::rewrite_record(&mut next, place, new);
-    let read = mean::read_record(&next, at);
-    ReadBack { answer, read }
+// An answer as it is printed: the value, or 'R' and the number of the refusal.
+#[derive(Clone, Copy)]
+struct Answer<T>(Result<T, Refusal>);
+
+impl<T: fmt::Display> fmt::Display for Answer<T> {
+    fn fmt<W: fmt::Write>(&self, f: &mut fmt::Formatter<W>) -> fmt::Result {
+        match &self.0 {
+            Ok(value) => write!(f, "{value}"),
+            Err(refusal) => write!(f, "R {}", u8::from(*refusal)),
+        }
+    }
 }
 
 // A day by method one.
@@ -41,151 +40,90 @@ fn day_of(level: i32) -> DayAnswer {
     }
 }
 
-fn text<W: Write>(out: &mut W, bytes: &[u8]) -> io::Result<()> {
-    out.write_all(bytes)
+fn show_mean<W: Write>(
+    out: &mut W,
+    label: &str,
+    answer: Result<Reading, Refusal>,
+) -> io::Result<()> {
+    writeln!(out, "{label}: {}", Answer(answer.map(Shown)))
 }
 
-fn show_number<W: Write>(out: &mut W, number: u64) -> io::Result<()> {
-    write!(out, " {number}")
-}
-
-fn show_refusal<W: Write>(out: &mut W, number: u8) -> io::Result<()> {
-    write!(out, " R {number}")
-}
-
-// A number, behind '-' where it is negative.
-fn show_signed<W: Write>(out: &mut W, number: i32) -> io::Result<()> {
-    write!(out, " {number}")
-}
-
-fn show_level<W: Write>(out: &mut W, level: Reading) -> io::Result<()> {
-    match level {
-        Reading::At(at) => show_signed(out, at.0),
-        Reading::BelowScale => text(out, b" -"),
-    }
-}
-
-fn show_mean<W: Write>(out: &mut W, label: &[u8], answer: MeanAnswer) -> io::Result<()> {
-    text(out, label)?;
-    match answer {
-        MeanAnswer::Mean(level) => show_level(out, level)?,
-        MeanAnswer::Refused(refusal) => show_refusal(out, quantity::refusal_number(refusal))?,
-    }
-    text(out, b"\n")
-}
-
-fn show_check<W: Write>(out: &mut W, answer: Check) -> io::Result<()> {
-    match answer {
-        Check::Passed => text(out, b" A"),
-        Check::Refused(refusal) => show_refusal(out, quantity::refusal_number(refusal)),
-    }
-}
-
-fn show_read<W: Write>(out: &mut W, read: ReadAnswer) -> io::Result<()> {
-    match read {
-        ReadAnswer::Record(day) => {
-            let level = day.level;
-            show_level(out, level)
-        }
-        ReadAnswer::Refused(refusal) => show_refusal(out, quantity::refusal_number(refusal)),
-    }
-}
-
-fn show_rewriting<W: Write>(out: &mut W, label: &[u8], back: ReadBack) -> io::Result<()> {
-    let answer = back.answer;
-    let read = back.read;
-    text(out, label)?;
-    show_check(out, answer)?;
-    show_read(out, read)?;
-    text(out, b"\n")
+// A record of a week of days of 6000 rewritten ('A' where it is), and the record that is read afterwards.
+fn show_rewriting<W: Write>(
+    out: &mut W,
+    label: &str,
+    place: usize,
+    new: DayAnswer,
+    at: usize,
+) -> io::Result<()> {
+    let mut days = [day_of(6000); 7];
+    let answer = mean::rewrite_record(&mut days, place, new).map(|()| "A");
+    let read = mean::read_record(&days, at).map(|day| Shown(day.level));
+    writeln!(out, "{label}: {} {}", Answer(answer), Answer(read))
 }
 
 // Means and records of document 01.
 fn show_loud_days<W: Write>(out: &mut W) -> io::Result<()> {
     let six = day_of(6000);
     let seven = day_of(7000);
+    let loud = day_of(20001);
+    let week = [six, six, six, six, six, six, seven];
     show_mean(
         out,
-        b"six days 6000 and one 7000, 6359:",
-        week_of_7([six, six, six, six, six, six, seven]),
+        "six days 6000 and one 7000, 6359",
+        mean::week_mean(&week),
     )?;
-    show_mean(out, b"seven days 6000, 6000:", week_of_7([six; 7]))?;
-    show_mean(out, b"366 days 6000, 6000:", year_of_366([six; 366]))?;
-    show_mean(out, b"367 days, R 13:", year_of_367([six; 367]))?;
-    show_mean(
-        out,
-        b"a day above 20000, R 14:",
-        week_of_7([six, six, day_of(20001), six, six, six, six]),
-    )?;
+    show_mean(out, "seven days 6000, 6000", mean::week_mean(&[six; 7]))?;
+    show_mean(out, "366 days 6000, 6000", mean::year_mean(&[six; 366]))?;
+    show_mean(out, "367 days, R 13", mean::year_mean(&[six; 367]))?;
+    let week = [six, six, loud, six, six, six, six];
+    show_mean(out, "a day above 20000, R 14", mean::week_mean(&week))?;
     show_rewriting(
         out,
-        b"the last record rewritten and read, A 7000:",
-        rewrite_and_read([six; 7], 6, seven, 6),
+        "the last record rewritten and read, A 7000",
+        6,
+        seven,
+        6,
     )?;
-    show_rewriting(
-        out,
-        b"another record read, A 6000:",
-        rewrite_and_read([six; 7], 6, seven, 5),
-    )?;
-    show_rewriting(
-        out,
-        b"no such place, R 13 and R 13:",
-        rewrite_and_read([six; 7], 7, seven, 7),
-    )?;
-    show_rewriting(
-        out,
-        b"a level above 20000, R 14 and 6000:",
-        rewrite_and_read([six; 7], 0, day_of(20001), 0),
-    )
+    show_rewriting(out, "another record read, A 6000", 6, seven, 5)?;
+    show_rewriting(out, "no such place, R 13 and R 13", 7, seven, 7)?;
+    show_rewriting(out, "a level above 20000, R 14 and 6000", 0, loud, 0)
 }
 
 // Those of quiet fields.
 fn show_quiet_days<W: Write>(out: &mut W) -> io::Result<()> {
     let six = day_of(6000);
+    let minus = day_of(-1);
     let lowest = day_of(-5000);
+    let under = day_of(-5001);
     let quiet = DayAnswer {
         level: Reading::BelowScale,
         method: Method::One,
     };
-    show_mean(out, b"seven days -5000, -5000:", week_of_7([lowest; 7]))?;
     show_mean(
         out,
-        b"a day below scale among them, -:",
-        week_of_7([lowest, lowest, lowest, quiet, lowest, lowest, lowest]),
+        "seven days -5000, -5000",
+        mean::week_mean(&[lowest; 7]),
     )?;
+    let week = [lowest, lowest, lowest, quiet, lowest, lowest, lowest];
     show_mean(
         out,
-        b"six days -1 and one 845, 268:",
-        week_of_7([
-            day_of(-1),
-            day_of(-1),
-            day_of(-1),
-            day_of(845),
-            day_of(-1),
-            day_of(-1),
-            day_of(-1),
-        ]),
+        "a day below scale among them, -",
+        mean::week_mean(&week),
     )?;
-    show_mean(
-        out,
-        b"a day under -5000, R 14:",
-        week_of_7([six, six, day_of(-5001), six, six, six, six]),
-    )?;
+    let week = [minus, minus, minus, day_of(845), minus, minus, minus];
+    show_mean(out, "six days -1 and one 845, 268", mean::week_mean(&week))?;
+    let week = [six, six, under, six, six, six, six];
+    show_mean(out, "a day under -5000, R 14", mean::week_mean(&week))?;
     show_rewriting(
         out,
-        b"a record of -5000 written and read, A -5000:",
-        rewrite_and_read([six; 7], 3, lowest, 3),
+        "a record of -5000 written and read, A -5000",
+        3,
+        lowest,
+        3,
     )?;
-    show_rewriting(
-        out,
-        b"a record of -1 written and read, A -1:",
-        rewrite_and_read([six; 7], 3, day_of(-1), 3),
-    )?;
-    show_rewriting(
-        out,
-        b"a level under -5000, R 14 and 6000:",
-        rewrite_and_read([six; 7], 0, day_of(-5001), 0),
-    )
+    show_rewriting(out, "a record of -1 written and read, A -1", 3, minus, 3)?;
+    show_rewriting(out, "a level under -5000, R 14 and 6000", 0, under, 0)
 }
 
 fn main(rt: HostRuntime) -> io::Result<()> {

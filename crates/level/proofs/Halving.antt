@@ -5,32 +5,22 @@ use native.Mathlib.Nat.{pow-zero, pow-suc, lt_of_not-le}
 use native.Mathlib.Omega.{arith}
 use lib.Dec.{lit<, lit≤}
 use Rattle.power.specs.Power.{m, G}
-use Rattle.power.proofs.Scale.{m_zero, m_thousand, digit_reached, digit_passed}
-use Rattle.level.specs.Leading.{Between, Found}
+use Rattle.power.proofs.Scale.{m_zero, m_thousand}
+use Rattle.level.specs.Leading.{Found}
 
--- the search begins with the whole table, or with the mantissas whose first digit is at least d and less than t
-pub between_starts : {digits : ℕ} → G ≤ digits → digits < 10 * G → Between digits 0 1000
-between_starts l h = record { order = lit< tt; end = lit≤ tt; reached = rw m_zero l; missed = rw m_thousand h }
-
-pub between_digits : {digits low high : ℕ} (d t : ℕ)
-    → low < high
-    → high ≤ 1000
-    → 10 ^ low ≤ d ^ 1000
-    → t ^ 1000 ≤ 10 ^ high
-    → d * G ≤ digits
-    → digits < t * G
-    → Between digits low high
-between_digits {digits} {low} {high} d t o e l h a b =
-    record { order = o; end = e; reached = omega (arith, digit_reached d low l); missed = omega (arith, digit_passed t high h) }
-
--- the range, and the turns left: two to their power is no less than its width
+-- the place of the largest mantissa that is at most the digits lies from low on and before high; and two to the number of turns left is no less than the width
+-- of that range
 pub record Halving (digits low high turns : ℕ) : Type 0 where
-  pub between : Between digits low high
+  pub order : low < high
+  pub end : high ≤ 1000
+  pub reached : m low ≤ digits
+  pub missed : digits < m high
   pub closes : high ≤ low + 2 ^ turns
 
--- at the start they must suffice for a thousand mantissas
-pub halving_starts : {digits low high turns : ℕ} → 1000 ≤ 2 ^ turns → Between digits low high → Halving digits low high turns
-halving_starts enough p = record { between = p; closes = omega (arith, p.end) }
+-- the search begins with all thousand mantissas, for which the turns must suffice
+pub halving_starts : {digits turns : ℕ} → 1000 ≤ 2 ^ turns → G ≤ digits → digits < 10 * G → Halving digits 0 1000 turns
+halving_starts enough l h =
+    record { order = lit< tt; end = lit≤ tt; reached = rw m_zero l; missed = rw m_thousand h; closes = omega (arith, enough) }
 
 module _ {digits low high turns : ℕ} (p : Halving digits low high turns) (wide : low + 1 < high) where
   -- a range of more than one place has a turn left
@@ -48,22 +38,14 @@ module _ {digits low high turns : ℕ} (p : Halving digits low high turns) (wide
   -- the middle of the range, rounded down, leaves half of it on either side
   module _ {middle : ℕ} (least : low + high ≤ 2 * middle + 1) (most : 2 * middle ≤ low + high) where
     pub halving_up : m middle ≤ digits → Halving digits middle high (turns - 1)
-    halving_up h =
-        record {
-          between = record { order = omega arith; end = p.between.end; reached = h; missed = p.between.missed };
-          closes = omega (arith, halves);
-        }
+    halving_up h = record { order = omega arith; end = p.end; reached = h; missed = p.missed; closes = omega (arith, halves) }
 
     pub halving_down : digits < m middle → Halving digits low middle (turns - 1)
     halving_down h =
-        record {
-          between = record { order = omega arith; end = omega (arith, p.between.end); reached = p.between.reached; missed = h };
-          closes = omega (arith, halves);
-        }
+        record { order = omega arith; end = omega (arith, p.end); reached = p.reached; missed = h; closes = omega (arith, halves) }
 
 -- a range of one place is the place
 pub halving_ends : {digits low high turns : ℕ} → Halving digits low high turns → high ≤ low + 1 → Found digits low
 halving_ends {digits} {low} {high} p h =
-    let q = p.between in
-    let e : high ≡ low + 1 = omega (arith, q.order) in
-    record { place = omega (arith, q.order, q.end); low = q.reached; high = rw (← e) q.missed }
+    let e : high ≡ low + 1 = omega (arith, p.order) in
+    record { place = omega (arith, p.order, p.end); low = p.reached; high = rw (← e) p.missed }

@@ -1,14 +1,13 @@
 // The level of a sum over a divisor: the quotient is cut to its ten leading digits, and these are looked up among the mantissas.
 #![tactic(auto)]
 
-ghost use Rattle.std.specs.Prelude.{◌≡◌, ℕ, ◌+◌, ◌*◌, ◌/◌, ◌^◌, ◌≤◌, ◌<◌, leb, length};
+ghost use Rattle.std.specs.Prelude.{◌≡◌, ℕ, ◌+◌, ◌*◌, ◌/◌, ◌^◌, ◌≤◌, ◌<◌};
 ghost use Rattle.quantity.specs.Answers.{reading};
 ghost use Rattle.quantity.specs.Scale.{depth_factor};
 ghost use Rattle.power.specs.Power.{G, m};
-ghost use Rattle.power.specs.Table.{IsRow, IsTable};
 ghost use Rattle.limbs.specs.Value.{base, value};
 ghost use Rattle.level.specs.Level.{reading_at, largest_level, level_of};
-ghost use Rattle.level.specs.Leading.{Leads, Between, Found, without};
+ghost use Rattle.level.specs.Leading.{Leads, Found, without};
 
 use quantity::Reading;
 
@@ -26,29 +25,22 @@ const MOST_TURNS: u32 = 10;
 pub struct Leading {
     pub digits: u64,
     pub omitted: u32,
+    ghost few: { omitted ≤ 100 },
 }
 
-// Tries one level: whether the digits reach its mantissa. The row has the places from `from` on.
-fn is_reached(row: &[u64], from: u32, place: u32, digits: u64) -> bool
-    requires { IsRow from row.now × (from ≤ place) × (place < from + length row.now) }
-    ensures { result ≡ leb (m place) digits }
-{
-    row[(place - from) as usize] <= digits
-}
-
-// The place of the largest mantissa that is at most the digits, which lies from first on and before end. The search stops when one place is left; the
-// count shows that the turns do not run out before.
-fn place_in(row: &[u64], from: u32, first: u32, end: u32, digits: u64) -> u32
-    requires { IsRow from row.now × Between digits first end × (from ≤ first + 1) × (end ≤ from + length row.now) }
+// The place of the largest mantissa that is at most the digits. The search stops when one place is left; the count shows that the turns do not run out
+// before.
+fn place_of(digits: u64) -> u32
+    requires { (G ≤ digits) × (digits < 10 * G) }
     ensures { Found digits result }
 {
-    let mut low = first;
-    let mut high = end;
+    let mut low: u32 = 0;
+    let mut high: u32 = 1000;
     let mut turns_left = MOST_TURNS;
     while low + 1 < high {
         turns_left -= 1;
         let middle = (low + high) / 2;
-        if is_reached(row, from, middle, digits) {
+        if power::mantissa(middle as usize) <= digits {
             low = middle;
         } else {
             high = middle;
@@ -57,58 +49,19 @@ fn place_in(row: &[u64], from: u32, first: u32, end: u32, digits: u64) -> u32
     low
 }
 
-// That place in the whole table.
-fn place_in_table(table: &[u64; 1000], digits: u64) -> u32
-    requires { IsTable table.now × (G ≤ digits) × (digits < 10 * G) }
-    ensures { Found digits result }
-{
-    place_in(table, 0, 0, 1000, digits)
-}
-
-// That place in the row to which the first digit leads: no other row is made.
-fn place_in_row(digits: u64) -> u32
-    requires { (G ≤ digits) × (digits < 10 * G) }
-    ensures { Found digits result }
-{
-    if digits < 2000000000 {
-        let row = power::row_from_1();
-        return place_in(&row, 0, 0, 302, digits);
-    }
-    if digits < 4000000000 {
-        let row = power::row_from_2();
-        return place_in(&row, 302, 301, 603, digits);
-    }
-    let row = power::row_from_4();
-    place_in(&row, 603, 602, 1000, digits)
-}
-
-// The same number, cut to ten digits at the most.
-fn ten_digits(number: Leading) -> Leading
-    requires { number.omitted ≤ 100 }
-    ensures same { (n : ℕ) → Leads n number.digits number.omitted → Leads n result.digits result.omitted }
-    ensures short { (result.digits < 10 * G) × (result.omitted ≤ 120) }
+// The same number, cut to ten digits at the most, and how many digits are then omitted.
+fn ten_digits(number: Leading) -> (u64, u32)
+    ensures same { (n : ℕ) → Leads n number.digits number.omitted → Leads n result.0 result.1 }
+    ensures short { (result.0 < 10 * G) × (result.1 ≤ 120) }
 {
     let mut digits = number.digits;
     let mut omitted = number.omitted;
-    while 10000000000 <= digits {
+    // A turn takes a digit off; how many there are is not known before.
+    while 10 * UNIT <= digits {
         digits /= 10;
         omitted += 1;
     }
-    Leading { digits, omitted }
-}
-
-// The largest level of which the power is at most a number, whose leading digits are given, with the table that the caller has made.
-pub fn level_of_leading(table: &[u64; 1000], number: Leading) -> Reading
-    requires { IsTable table.now × (number.omitted ≤ 100) }
-    ensures { (n : ℕ) → Leads n number.digits number.omitted → reading result ≡ largest_level 0 1 n }
-{
-    let short = ten_digits(number);
-    let digits = short.digits;
-    let omitted = short.omitted;
-    if digits < UNIT {
-        return Reading::BelowScale;
-    }
-    Reading::At(quantity::lowered(1000 * omitted + place_in_table(table, digits)))
+    (digits, omitted)
 }
 
 // The reading of a raised level, less an offset.
@@ -122,28 +75,27 @@ fn reading_at(height: u32, offset: u32) -> Reading
     Reading::At(quantity::lowered(height - offset))
 }
 
-// The same as `level_of_leading`, with an offset on the table and without a table that is made.
-fn level_by_row(number: Leading, offset: u32) -> Reading
-    requires { number.omitted ≤ 100 }
+// The largest level of which the power is at most a number, whose leading digits are given, with an offset on the table.
+pub fn level_of_leading(number: Leading, offset: u32) -> Reading
     ensures { (n : ℕ) → Leads n number.digits number.omitted → reading result ≡ largest_level offset 1 n }
 {
-    let short = ten_digits(number);
-    let digits = short.digits;
-    let omitted = short.omitted;
+    let (digits, omitted) = ten_digits(number);
     if digits < UNIT {
         return Reading::BelowScale;
     }
-    reading_at(1000 * omitted + place_in_row(digits), offset)
+    reading_at(1000 * omitted + place_of(digits), offset)
 }
 
-// The quotient of a sum by a divisor, without its lowest digits where it passes 64 bits.
+// The quotient of a sum by a divisor, without its lowest digits where it passes 64 bits. A divisor is a number of a formula, as the definitions have it: that it is above 0 is required of it and
+// no type holds it.
 fn leading_quotient(sum: [u32; 6], divisor: u32) -> Leading
     requires { 0 < divisor }
-    ensures { Leads (value sum / divisor) result.digits result.omitted × (result.omitted ≤ 100) }
+    ensures { Leads (value sum / divisor) result.digits result.omitted }
 {
     let mut quotient = sum;
     limbs::divide(&mut quotient, divisor);
     let mut omitted: u32 = 0;
+    // A turn takes nine digits off; how many there are is not known before.
     while !limbs::fits_u64(&quotient) {
         limbs::divide(&mut quotient, 1000000000);
         omitted += 9;
@@ -169,7 +121,6 @@ pub fn level_over(sum: [u32; 6], divisor: u32, offset: u32) -> Reading
     requires { (0 < divisor) × (value sum < 2 * base ^ 5) }
     ensures { reading result ≡ level_of offset divisor (value sum) }
 {
-    let deep = deepened(sum);
-    let quotient = leading_quotient(deep, divisor);
-    level_by_row(quotient, offset)
+    let quotient = leading_quotient(deepened(sum), divisor);
+    level_of_leading(quotient, offset)
 }

@@ -1,13 +1,13 @@
 -- The limbs of a number, and numbers that are kept in k limbs: what is known of a run of limbs exactly.
 use Prim.Native.Nat.{ℕ, suc, zero, ◌+◌, ◌*◌, ◌/◌, ◌%◌, ◌^◌, ◌<◌}
 use mathlib.Core.Path.{◌≡◌, refl, ap, ap₂, sym, ◌∙◌}
-use mathlib.Core.List.{List, [], ◌∷◌}
+use mathlib.Core.List.{List, [], ◌∷◌, ◌++◌}
 use native.Mathlib.Nat.{add-mul, add-zero, mul_assoc, mul_right_comm, zero-mul, pow-zero, pow-suc, one-le-pow, mod-eq_of_lt, div-add-mod', add_comm}
 use native.Mathlib.Omega.{arith}
 use lib.Arith.{mod-mul}
-use lib.ListN.{length}
+use lib.ListN.{length, replicate, length-append, length-replicate}
 use Rattle.limbs.specs.Value.{base, value, limbs_of}
-use Rattle.limbs.proofs.Value.{Limbs}
+use Rattle.limbs.proofs.Value.{Limbs, value_filled}
 
 pub length_limbs_of : (k n : ℕ) → length (limbs_of k n) ≡ k
 unfolding limbs_of
@@ -31,6 +31,10 @@ limbs_of_value a f = sym (digits a f (value a) 0 (rw (zero-mul, add-zero) refl))
 -- a run of limbs is known by its length and its number
 pub limbs_exact : (a : List ℕ) → Limbs a → (k n : ℕ) → length a ≡ k → value a ≡ n → a ≡ limbs_of k n
 limbs_exact a f k n l e = sym (limbs_of_value a f) ∙ ap₂ limbs_of l e
+
+-- limbs that are filled up with 0
+pub filled : (a : List ℕ) (i : ℕ) {k : ℕ} → Limbs (a ++ replicate i 0) → length a + i ≡ k → a ++ replicate i 0 ≡ limbs_of k (value a)
+filled a i {k} f e = limbs_exact (a ++ replicate i 0) f k (value a) (omega (arith, length-append a (replicate i 0), length-replicate {A = ℕ} i 0)) (value_filled a i)
 
 pub value_limbs_of : (k n : ℕ) → value (limbs_of k n) ≡ n % base ^ k
 unfolding value limbs_of

@@ -1,11 +1,15 @@
 -- The number that a run of limbs is: of a part of the run, after a store, and its bounds.
 use Prim.Native.Nat.{ℕ, suc, zero, ◌+◌, ◌*◌, ◌-◌, ◌%◌, ◌^◌, ◌≤◌, ◌<◌}
-use mathlib.Core.Path.{◌≡◌, refl, ap, ◌∙◌}
-use mathlib.Core.List.{List, [], ◌∷◌}
+use mathlib.Core.Path.{◌≡◌, refl, ap, sym, ◌∙◌}
+use mathlib.Core.List.{List, [], ◌∷◌, ◌++◌}
 use native.Mathlib.Nat.{mul_assoc, pow-zero, pow-suc, one-le-pow, pow-le-pow_right, mul-le-mul_right, lt_of_lt_of_le}
 use native.Mathlib.Numerals.{add-one}
 use native.Mathlib.Omega.{arith}
-use lib.ListN.{length, take, drop, get_or, set}
+use lib.ListN.{length, take, drop, get_or, set, replicate}
+use borrow.Author.Tests.{lt-ltb, le-ltb, apart_eqb}
+use lib.Dec.{ltb}
+use Rattle.std.specs.Prelude.{◌==◌}
+use Rattle.std.specs.List.{list_all}
 use lib.Seq.{drop-cons, take-length, take-set-le, get_or-set_same}
 use Rattle.limbs.specs.Value.{base, value}
 
@@ -27,6 +31,13 @@ value_none = refl
 pub value_pair : (low high : ℕ) → value (low ∷ high ∷ []) ≡ low + high * base
 unfolding value
 value_pair low high = omega arith
+
+-- limbs that are filled up with 0
+pub value_filled : (a : List ℕ) (n : ℕ) → value (a ++ replicate n 0) ≡ value a
+unfolding value
+value_filled [] zero = refl
+value_filled [] (suc n) = omega (arith, value_filled [] n)
+value_filled (x ∷ xs) n = rw (value_filled xs n) refl
 
 -- the limb at i is the top of the i + 1 lowest, and the lowest of those from i on
 value_more : (a : List ℕ) (i : ℕ) → value (take (suc i) a) ≡ value (take i a) + get_or a i 0 * base ^ i
@@ -74,16 +85,27 @@ value_low [] f g = refl
 value_low (x ∷ []) f g = omega arith
 value_low (x ∷ y ∷ xs) f g = omega arith
 
--- a number that is that of its i lowest limbs, seen from the top one of these
-module _ (a : List ℕ) (i : ℕ) (h : 0 < i) (w : value a ≡ value (take i a)) where
-  pub top_zero : get_or a (i - 1) 0 ≡ 0 → value a ≡ value (take (i - 1) a)
-  top_zero z = omega (arith, (rw z at (w ∙ value_top a i h)))
+-- limbs are all 0 where their number is
+are_zero : (a : List ℕ) → list_all (λ x. x == 0) a ≡ ltb (value a) 1
+unfolding value
+are_zero [] = refl
+are_zero (zero ∷ xs) = are_zero xs ∙ below (value xs)
+  where
+    below : (n : ℕ) → ltb n 1 ≡ ltb (0 + base * n) 1
+    below zero = refl
+    below (suc n) = le-ltb (suc n) 1 (omega arith) ∙ sym (le-ltb (0 + base * suc n) 1 (omega arith))
+are_zero (suc x ∷ xs) = rw (apart_eqb (suc x) 0 (λ e. omega arith)) (sym (le-ltb (suc x + base * value xs) 1 (omega arith)))
 
-  pub top_above : 2 < i → 0 < get_or a (i - 1) 0 → base * base ≤ value a
-  top_above l g =
-      let e = value_top a i h in
-      omega (arith, pow-le-pow_right {n = base} (omega arith) {i = 2} {j = i - 1} (omega arith), mul-le-mul_right (base ^ (i - 1)) g)
+-- two limbs hold a number of two limbs, and one of which those above are 0
+pub two_limbs : (a : List ℕ) → Limbs a → length a ≤ 2 → value a < base * base
+two_limbs a f h = below_wider (length a) 2 h (value_below a f)
 
--- two limbs at most
-pub two_limbs : (a : List ℕ) → Limbs a → (i : ℕ) → i ≤ 2 → value a ≡ value (take i a) → value a < base * base
-two_limbs a f i h w = rw w (below_wider i 2 h (value_take_below a f i))
+pub above_zero : (a : List ℕ) → Limbs a → 2 ≤ length a → list_all (λ x. x == 0) (drop 2 a) ≡ ltb (value a) (base * base)
+unfolding value
+above_zero [] f h = absurd (omega arith)
+above_zero (x ∷ []) f h = absurd (omega arith)
+above_zero (x ∷ y ∷ xs) f h = are_zero xs ∙ above (value xs)
+  where
+    above : (n : ℕ) → ltb n 1 ≡ ltb (x + base * (y + base * n)) (base * base)
+    above zero = sym (lt-ltb (x + base * (y + base * 0)) (base * base) (omega (arith, f 0, f 1)))
+    above (suc n) = le-ltb (suc n) 1 (omega arith) ∙ sym (le-ltb (x + base * (y + base * suc n)) (base * base) (omega arith))

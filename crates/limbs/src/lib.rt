@@ -2,7 +2,8 @@
 // A clause `whole` gives the number, a clause `digits` the very limbs.
 #![tactic(auto)]
 
-ghost use Rattle.std.specs.Prelude.{◌≡◌, ◌+◌, ◌*◌, ◌/◌, ◌%◌, ◌^◌, ◌≤◌, ◌<◌, length, get_or, ltb};
+ghost use Rattle.std.specs.Prelude.{◌≡◌, ◌==◌, ◌+◌, ◌*◌, ◌/◌, ◌%◌, ◌^◌, ◌≤◌, ◌<◌, length, get_or, ltb};
+ghost use Rattle.std.specs.List.{list_all};
 ghost use Rattle.limbs.specs.Value.{base, value, limbs_of};
 
 // A limb is below it.
@@ -36,13 +37,11 @@ pub fn scale(a: &mut [u32], k: u32) -> u32
     ensures whole { value a.new + result * base ^ length a.old ≡ value a.old * k }
     ensures digits { a.new ≡ limbs_of (length a.old) (value a.old * k) }
 {
-    let mut carry: u32 = 0;
-    let mut i = 0;
-    while i < a.len() {
-        let t = limb_product(a[i], k, carry);
-        a[i] = t.low;
+    let mut carry = 0;
+    for limb in a.iter_mut() {
+        let t = limb_product(*limb, k, carry);
+        *limb = t.low;
         carry = t.high;
-        i += 1;
     }
     carry
 }
@@ -59,13 +58,11 @@ pub fn add(a: &mut [u32], b: &[u32]) -> u32
     ensures whole { value a.new + result * base ^ length a.old ≡ value a.old + value b.now }
     ensures digits { a.new ≡ limbs_of (length a.old) (value a.old + value b.now) }
 {
-    let mut carry: u32 = 0;
-    let mut i = 0;
-    while i < a.len() {
-        let t = limb_sum(a[i], b[i], carry);
-        a[i] = t.low;
+    let mut carry = 0;
+    for (i, limb) in a.iter_mut().enumerate() {
+        let t = limb_sum(*limb, b[i], carry);
+        *limb = t.low;
         carry = t.high;
-        i += 1;
     }
     carry
 }
@@ -96,22 +93,13 @@ pub fn divide(a: &mut [u32], d: u32) -> u32
     ensures quotient { value a.new ≡ value a.old / d }
     ensures digits { a.new ≡ limbs_of (length a.old) (value a.old / d) }
 {
-    let mut remainder: u32 = 0;
-    let mut i = a.len();
-    while 0 < i {
-        i -= 1;
+    let mut remainder = 0;
+    for i in (0..a.len()).rev() {
         let t = limb_quotient(remainder, a[i], d);
         a[i] = t.quotient;
         remainder = t.remainder;
     }
     remainder
-}
-
-// The limb at `i`; one that `a` has not is 0.
-fn limb_at(a: &[u32], i: usize) -> u32
-    ensures { result ≡ get_or a.now i 0 }
-{
-    if i < a.len() { a[i] } else { 0 }
 }
 
 // `a` becomes the number that `b` is. The clause `below` bounds it for callers that hold `b` as an array.
@@ -121,11 +109,9 @@ pub fn load(a: &mut [u32], b: &[u32])
     ensures digits { a.new ≡ limbs_of (length a.old) (value b.now) }
     ensures below { value b.now < base ^ length b.now }
 {
-    let mut i = 0;
-    while i < a.len() {
-        a[i] = limb_at(b, i);
-        i += 1;
-    }
+    let (low, high) = a.split_at_mut(b.len());
+    low.copy_from_slice(b);
+    high.fill(0);
 }
 
 // `a` becomes the number `x`.
@@ -139,18 +125,25 @@ pub fn put(a: &mut [u32], x: u64)
     load(a, &pair);
 }
 
+// Whether all limbs are 0.
+fn are_zero(limbs: &[u32]) -> bool
+    ensures { result ≡ list_all (λ x. x == 0) limbs.now }
+{
+    limbs.iter().all(|limb| *limb == 0)
+}
+
 // Whether `a` is a number that a u64 holds: each limb above the second is 0.
 pub fn fits_u64(a: &[u32]) -> bool
     ensures { result ≡ ltb (value a.now) (base * base) }
 {
-    let mut i = a.len();
-    while 2 < i {
-        i -= 1;
-        if limb_at(a, i) != 0 {
-            return false;
-        }
-    }
-    true
+    a.len() <= 2 || are_zero(&a[2..])
+}
+
+// The limb at `i`; one that `a` has not is 0.
+fn limb_at(a: &[u32], i: usize) -> u32
+    ensures { result ≡ get_or a.now i 0 }
+{
+    a.get(i).copied().unwrap_or(0)
 }
 
 // The two lowest limbs of `a` as a number.

@@ -1,2 +1,2 @@
--- Laws that the proofs of `mean` share.
+-- The laws that the proofs of `mean` share.
 pub mod Totals

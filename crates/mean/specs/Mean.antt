@@ -1,12 +1,12 @@
 -- Document 01, 'Means (6-5, 6-6)', and document 02, W-210: the mean of the levels of some days.
-use Rattle.std.specs.Prelude.{Bool, false, ◌||◌, List, [], ◌∷◌, ℕ, ◌+◌, ltb, length}
-use Rattle.quantity.specs.Answers.{Reading, level, below_scale, reading, refusal_number}
-use Rattle.quantity.specs.Rules.{Rule, first_of, Outcome, refused, given, outcome}
+use Rattle.std.specs.Prelude.{Bool, false, ◌||◌, List, [], ◌∷◌, ℕ, ◌+◌, ltb, length, Result}
+use Rattle.quantity.specs.Answers.{Reading, level, below_scale, reading, outcome_of}
+use Rattle.quantity.specs.Rules.{Rule, first_of, Outcome, outcome}
 use Rattle.quantity.specs.Scale.{raised, is_reading_outside}
+use Rattle.quantity.specs.declared.Reading as declared
+use Rattle.quantity.specs.declared.Refusal.{Refusal}
 use Rattle.power.specs.Power.{e}
 use Rattle.level.specs.Level.{largest_level}
-use Rattle.mean.specs.declared.MeanAnswer.{MeanAnswer}
-use Rattle.mean.specs.declared.MeanAnswer.TheVariants.{Mean, Refused}
 
 -- e(Ldn + 5000) of a day; a below-scale day adds nothing
 abbrev pub power_of : Reading → ℕ
@@ -32,9 +32,8 @@ abbrev pub mean_rules : Bool → Bool → List Rule
 mean_rules count outside = record { number = 13; refuses = count } ∷ record { number = 14; refuses = outside } ∷ []
 
 -- what a mean answers: a level or 'below scale', or the number of a refusal
-abbrev pub mean_outcome : MeanAnswer → Outcome Reading
-mean_outcome (Mean l) = given (reading l)
-mean_outcome (Refused r) = refused (refusal_number r)
+abbrev pub mean_outcome : Result declared.Reading Refusal → Outcome Reading
+mean_outcome = outcome_of reading
 
 -- the mean of D days: the largest r ≥ -5000 with D * e(r + 5000) ≤ the sum of e(Ldn + 5000)
 unfoldable pub mean_of : (fewest most : ℕ) → List Reading → Outcome Reading

@@ -1,15 +1,15 @@
 -- Document 01, 'Day': the numbers of flights and of accepted events, and the method that they choose.
-use Rattle.std.specs.Prelude.{Bool, true, ◌&&◌, ◌||◌, not, cond, [], ◌∷◌, ℕ, zero, suc, ◌+◌, ◌-◌, ◌*◌, leb, eqb, get_or}
-use Rattle.quantity.specs.Answers.{method_number, refusal_number}
+use Rattle.std.specs.Prelude.{Bool, true, ◌&&◌, ◌||◌, not, cond, [], ◌∷◌, ℕ, zero, suc, ◌+◌, ◌-◌, ◌*◌, leb, eqb, get_or, Result}
+use Rattle.quantity.specs.Answers.{method_number, outcome_of}
 use Rattle.quantity.specs.Numbers.{distance}
-use Rattle.quantity.specs.Rules.{Rule, first_of, Outcome, refused, given, outcome}
+use Rattle.quantity.specs.Rules.{Rule, first_of, Outcome, outcome}
+use Rattle.quantity.specs.declared.Method.{Method}
+use Rattle.quantity.specs.declared.Refusal.{Refusal}
 use Rattle.ledger.specs.Book.{most_classes, sum_of}
 use Rattle.ledger.specs.declared.Period.{Period}
 use Rattle.ledger.specs.declared.Day.{Day}
 use Rattle.method.specs.declared.Count.{Count}
 use Rattle.method.specs.declared.Totals.{Totals}
-use Rattle.method.specs.declared.MethodAnswer.{MethodAnswer}
-use Rattle.method.specs.declared.MethodAnswer.TheVariants.{By, Refused}
 
 -- the flights of the book and the accepted events in two periods together
 abbrev pub both_of : Count → Count → Count
@@ -70,9 +70,8 @@ method_rule c = record { number = 12; refuses = not (has_method c) }
 abbrev pub method_of : Counts → Outcome ℕ
 method_of c = outcome (first_of (method_rule c ∷ [])) (method_by c)
 
-abbrev pub method_outcome : MethodAnswer → Outcome ℕ
-method_outcome (By m) = given (method_number m)
-method_outcome (Refused r) = refused (refusal_number r)
+abbrev pub method_outcome : Result Method Refusal → Outcome ℕ
+method_outcome = outcome_of method_number
 
 -- a day's numbers
 abbrev pub count_of : Period → Count

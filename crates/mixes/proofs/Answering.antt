@@ -7,8 +7,8 @@ use native.Mathlib.Omega.{arith}
 use borrow.Author.Rules.{rules}
 use borrow.Author.Tests.{not-false, ltb-false, eqb-true, eqb-false}
 use lib.Dec.{ltb, eqb}
-use lib.ListN.{length, drop}
-use Rattle.quantity.specs.Rules.{first_of, Outcome, refused, given}
+use lib.ListN.{length}
+use Rattle.quantity.specs.Rules.{first_of, Outcome, refused}
 use Rattle.quantity.proofs.Refusing.{pass, test_of, not_refused}
 use Rattle.quantity.proofs.Outcomes.{refuses}
 use Rattle.quantity.proofs.Tests.{neither}
@@ -59,13 +59,6 @@ pub untouched : {daytime night : List ℕ} {N' : ℕ} (lent : List ℕ) (n : ℕ
     → Answered daytime night N' lent (refused n) lent
 untouched {daytime} {night} {N'} lent n h e =
     record { counted = rw e (sym (refuses n h (length (mixes_of daytime night N')))); whole = refl; kept = refl }
-
--- a count leaves what stands behind the rows
-pub given_count : {daytime night : List ℕ} {N' count : ℕ} (lent left : List ℕ) → Free daytime night N' (length lent)
-    → count ≡ length (mixes_of daytime night N') → length left ≡ length lent
-    → drop (table_size (length daytime) N') left ≡ drop (table_size (length daytime) N') lent
-    → Answered daytime night N' lent (given count) left
-given_count {daytime} {night} {N'} {count} lent left h e w k = record { counted = rw (h.none, e); whole = w; kept = k }
 
 -- what a refusal leaves is what was lent
 pub kept_whole : {daytime night : List ℕ} {N' n : ℕ} {lent left : List ℕ} {answer : Outcome ℕ} → Answered daytime night N' lent answer left → answer ≡ refused n → left ≡ lent

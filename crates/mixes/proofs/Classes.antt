@@ -114,8 +114,3 @@ module _ {all : Count} {flights row : List ℕ} {n class : ℕ} (p : From all fl
             });
         bound = λ j. rw (d, l, pow-suc) (bounded_more b (ways all (drop class flights)) (most_fit ^ (length flights - class)) p.bound j);
       }
-
-  pub from_end : class ≤ 0 → Tabulates row n (ways all flights)
-  from_end h =
-      let e : class ≡ 0 = omega arith in
-      rw e at p.held

@@ -1,23 +1,25 @@
 -- The counts of a class that fit lie side by side, from the first up to the end that division gives, and are few.
 use mathlib.Core.Path.{◌≡◌}
 use mathlib.Core.Bool.{true, false}
-use Prim.Native.Nat.{ℕ, suc, ◌+◌, ◌-◌, ◌*◌, ◌/◌, ◌≤◌, ◌<◌}
-use native.Mathlib.Nat.{mul-le-mul, suc-mul, le_of_mul-le-mul_right, le-div_iff_mul-le, div-lt_iff_lt-mul}
+use Prim.Native.Nat.{ℕ, suc, ◌+◌, ◌-◌, ◌*◌, ◌/◌, ◌≤◌, ◌<◌, max, min}
+use Rattle.std.specs.Int.{div_ceil}
+use Rattle.std.proofs.lemmas.Grind.{div_ceil_times}
+use native.Mathlib.Nat.{suc-mul, le_of_mul-le-mul_right, le-div_iff_mul-le, div-lt_iff_lt-mul}
 use native.Mathlib.Omega.{arith}
 use lib.Dec.{leb, ltb, eqb}
 use borrow.Author.Tests.{ltb-true, ltb-false, leb-true, le-leb, eqb-false, ne_eqb}
 use Rattle.quantity.proofs.Tests.{test, both}
 use Rattle.method.specs.declared.Count.{Count}
 use Rattle.method.proofs.Shares.{share_known, share_shown}
-use Rattle.mixes.specs.Ways.{fits, least_of, at_least, at_most, most_fit, Between, Asked, most_of_class}
+use Rattle.mixes.specs.Ways.{fits, least_of, at_least, at_most, most_fit, Between, Asked}
 
 -- the counts of a class that fit: of a class that has flights one at least, and twenty times n'k N from 20 nk N' - N N' to 20 nk N' + N N'
-abbrev first_fit : Count → ℕ → ℕ
+abbrev pub first_fit : Count → ℕ → ℕ
 first_fit all flights =
     at_least (least_of flights)
     ((20 * (flights * all.events) - all.flights * all.events + (20 * all.flights - 1)) / (20 * all.flights))
 
-abbrev fit_end : Count → ℕ → ℕ
+abbrev pub fit_end : Count → ℕ → ℕ
 fit_end all flights =
     at_least (first_fit all flights)
     (at_most flights ((20 * (flights * all.events) + all.flights * all.events) / (20 * all.flights)) + 1)
@@ -33,6 +35,24 @@ from_rounded d x m p h =
     let g : x + (d - 1) < suc m * d = (div-lt_iff_lt-mul {k = d} {x = x + (d - 1)} {y = suc m} p).0 (omega arith) in
     let e : suc m * d ≡ m * d + d = suc-mul m d in
     omega arith
+
+-- the library's quotient that is rounded up
+rounded : (x d : ℕ) → 0 < d → div_ceil x d ≡ (x + (d - 1)) / d
+rounded x d p =
+    let t = div_ceil_times x d p in
+    let q = div_ceil x d in
+    let low : q ≤ (x + (d - 1)) / d = (le-div_iff_mul-le {k = d} {x = q} {y = x + (d - 1)} p).1 (omega (arith, t.1)) in
+    let high : (x + (d - 1)) / d < suc q = (div-lt_iff_lt-mul {k = d} {x = x + (d - 1)} {y = suc q} p).1 (rw suc-mul (omega (arith, t.0))) in
+    omega arith
+
+-- the two ends by the library's greater and smaller of two numbers
+pub first_is : (all : Count) (n : ℕ) → Asked all
+    → max (div_ceil (20 * (n * all.events) - all.flights * all.events) (20 * all.flights)) (least_of n) ≡ first_fit all n
+first_is all n k = rw (rounded (20 * (n * all.events) - all.flights * all.events) (20 * all.flights) (omega (arith, k.some, k.within))) (omega arith)
+
+pub end_is : (all : Count) (n : ℕ) {first : ℕ} → first ≡ first_fit all n
+    → max (min ((20 * (n * all.events) + all.flights * all.events) / (20 * all.flights)) n + 1) first ≡ fit_end all n
+end_is all n {first} e = rw e (omega arith)
 
 module _ (all : Count) (n : ℕ) where
   abbrev N : ℕ
@@ -123,10 +143,3 @@ module _ (all : Count) (n : ℕ) where
           inside = λ m h g. shown m (between_fits m h g);
           above = λ m h. refuted m (λ f. omega (arith, end_above m f));
         }
-
--- no product on the way is large
-pub share_small : (all : Count) (n : ℕ) → Asked all → n ≤ most_of_class → n * all.events ≤ 4194240000
-share_small all n k h = mul-le-mul {n₁ = n} {m₁ = all.events} {n₂ = most_of_class} {m₂ = 2000} h (omega (arith, k.within, k.small))
-
-pub tolerance_small : (all : Count) → Asked all → all.flights * all.events ≤ 4000000
-tolerance_small all k = mul-le-mul {n₁ = all.flights} {m₁ = all.events} {n₂ = 2000} {m₂ = 2000} k.small (omega (arith, k.within, k.small))

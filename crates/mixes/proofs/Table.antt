@@ -6,12 +6,11 @@ use Prim.Native.Nat.{ℕ, zero, suc, ◌+◌, ◌-◌, ◌*◌, ◌^◌, ◌≤�
 use native.Mathlib.Nat.{suc-mul, mul-le-mul_right, lt_of_mul-lt-mul_right}
 use native.Mathlib.Omega.{arith}
 use borrow.Rule.Slice.PartMut.{put_mid, post_of, same_len_mid}
-use lib.ListN.{length, get_or, set, take, drop, length-set, length-drop}
+use lib.ListN.{length, get_or, take, drop, length-drop}
 use lib.Seq.{get_or-take, get_or-drop, length-take-le, drop_at, take_at, drop-length}
 use Rattle.method.specs.declared.Count.{Count}
 use Rattle.mixes.specs.Answers.{most_mixed_classes}
-use Rattle.mixes.specs.Ways.{fits, sum_below, with_class, ways, no_class, most_fit, Between, cells, Tabulates, part, Copied, RowFrom, RowRoom, RowFits, Begun, ClassPut}
-use Rattle.mixes.proofs.Rows.{stored}
+use Rattle.mixes.specs.Ways.{fits, sum_below, with_class, ways, most_fit, Between, cells, Tabulates, part, RowFrom, RowRoom, RowFits, Begun, ClassPut}
 use Rattle.mixes.proofs.Classes.{From, ways_none, row_fits, from_more, sized}
 
 part_at : (l : List ℕ) (at size s : ℕ) → s < size → get_or (part l at size) s 0 ≡ get_or l (at + s) 0
@@ -24,70 +23,9 @@ part_length l at size h = length-take-le size (drop at l) (rw length-drop (omega
 pub part_put : (l row rest : List ℕ) (at size : ℕ) → at ≤ length l → length row ≡ size → part (take at l ++ (row ++ rest)) at size ≡ row
 part_put l row rest at size h e = rw (drop_at (take at l) (row ++ rest) at (length-take-le at l h), take_at row rest size e)
 
--- the first i numbers of a row are those of the row behind it, and the others what they were
-pub record CopiedTo (old table : List ℕ) (at size i : ℕ) : Type 0 where
-  pub within : i ≤ size
-  pub whole : length table ≡ length old
-  pub done : (j : ℕ) → j < i → get_or table (at + j) 0 ≡ get_or old (at + size + j) 0
-  pub kept : (j : ℕ) → at + i ≤ j → get_or table j 0 ≡ get_or old j 0
-
-pub copy_start : (old : List ℕ) (at size : ℕ) → CopiedTo old old at size 0
-copy_start old at size = record { within = omega arith; whole = refl; done = λ j h. absurd (omega arith); kept = λ j h. refl }
-
-module _ {old table : List ℕ} {at size i : ℕ} (p : CopiedTo old table at size i) where
-  pub copy_more : at + size + size ≤ length old → i < size → CopiedTo old (set table (at + i) (get_or table (at + size + i) 0)) at size (i + 1)
-  copy_more r h =
-      let v = get_or table (at + size + i) 0 in
-      let g : at + i < length table = omega (arith, p.whole) in
-      let e : v ≡ get_or old (at + size + i) 0 = p.kept (at + size + i) (omega arith) in
-      record {
-        within = omega arith;
-        whole = length-set table (at + i) v ∙ p.whole;
-        done = λ j l.
-            stored (λ x. x ≡ get_or old (at + size + j) 0) table (at + i) v (at + j) g
-            (λ q.
-            let d : j ≡ i = omega arith in
-            rw d e)
-            (λ q. p.done j (omega arith));
-        kept = λ j l. stored (λ x. x ≡ get_or old j 0) table (at + i) v j g (λ q. absurd (omega arith)) (λ q. p.kept j (omega arith));
-      }
-
-  pub copy_end : size ≤ i → Copied old table at size
-  copy_end h = record { whole = p.whole; cell = λ j l. p.done j (omega arith) }
-
--- a row begins as the row behind it
-pub begins_behind : {old new : List ℕ} {at size : ℕ} → RowRoom old at size → at + size < length old → Copied old new at size → Begun old new at size
-begins_behind {old} {new} {at} {size} r h c =
-    record {
-      whole = c.whole;
-      row = λ f p.
-          record {
-            size = part_length new at size (omega (arith, c.whole, r.inside));
-            at = λ s l. part_at new at size s l ∙ c.cell s l ∙ sym (part_at old (at + size) size s l) ∙ (p.held h).at s l;
-          };
-    }
-
 -- the numbers from a place up to the end of its row
 from_to : (at size : ℕ) → at + size - at ≡ size
 from_to at size = omega arith
-
--- the last row begins as the row of no class
-pub begins_last : (old row : List ℕ) (at size : ℕ) → RowRoom old at size → length old ≤ at + size → Tabulates row (length (part old at (at + size - at))) no_class
-    → Begun old (put_mid at (at + size - at) old row) at size
-begins_last old row at size r h t =
-    let k = at + size - at in
-    let u : Tabulates row size no_class = sized (part_length old at size r.inside) (rw from_to at t) in
-    record {
-      whole = same_len_mid at k old row t.size;
-      row = λ f p.
-          rw (part_put old row (post_of at k old) at size (omega (arith, r.inside)) u.size)
-          (record { size = u.size; at = λ s l. u.at s l ∙ p.last h s });
-    }
-
--- a row takes in a class
-pub row_small : (table : List ℕ) (at size : ℕ) → RowFits table at size
-    → sum_below (cells (part table at (at + size - at))) (length (part table at (at + size - at))) < 2 ^ 64
-row_small table at size r = rw (from_to, part_length table at size r.inside) r.small
 
 pub class_put : (old row : List ℕ) (at size first end : ℕ) → RowFits old at size
     → ((fit : ℕ → Bool) → Between fit first end → Tabulates row (length (part old at (at + size - at))) (with_class fit (cells (part old at (at + size - at)))))
@@ -165,10 +103,3 @@ module _ {all : Count} {flights table : List ℕ} {size class : ℕ} (p : TableF
         rows = record { last = λ i. absurd (omega (arith, (table_room h).inside, c.whole, t.whole)); held = λ i. n.held };
         bound = n.bound;
       }
-
-  pub table_end : 1 ≤ length flights → 1 ≤ size → class ≤ 0 → Tabulates (part table 0 size) size (ways all flights)
-  table_end g i h =
-      let e : class ≡ 0 = omega arith in
-      let z : 0 * size ≡ 0 = omega arith in
-      let r : RowFrom table 0 size (ways all flights) = rw (e, z) at p.rows in
-      r.held (omega (arith, p.whole, mul-le-mul_right size g))

@@ -1,11 +1,10 @@
 -- Document 02, W-212: which calls are refused, what a call answers, and what is left in the table that it was lent.
-use Rattle.std.specs.Prelude.{◌≡◌, Bool, ◌||◌, List, [], ◌∷◌, ◌++◌, ℕ, ◌+◌, ◌*◌, ltb, eqb, length, drop}
-use Rattle.quantity.specs.Answers.{refusal_number}
-use Rattle.quantity.specs.Rules.{Rule, first_of, Outcome, refused, given, outcome, follow}
+use Rattle.std.specs.Prelude.{◌≡◌, Bool, ◌||◌, List, [], ◌∷◌, ◌++◌, ℕ, ◌+◌, ◌*◌, ltb, eqb, length, drop, Result}
+use Rattle.quantity.specs.Answers.{outcome_of}
+use Rattle.quantity.specs.Rules.{Rule, first_of, Outcome, outcome, follow}
+use Rattle.quantity.specs.declared.Refusal.{Refusal}
 use Rattle.ledger.specs.Book.{sum_of, book_rules}
 use Rattle.mixes.specs.Mix.{mixes_of}
-use Rattle.mixes.specs.declared.MixAnswer.{MixAnswer}
-use Rattle.mixes.specs.declared.MixAnswer.TheVariants.{Counted, Refused}
 
 -- 24: 'more than 8 classes'
 abbrev pub most_mixed_classes : ℕ
@@ -29,9 +28,8 @@ mix_rules daytime night N' lent =
     ∷ []
 
 -- how many mixes would pass, or the number of a refusal
-abbrev pub mix_reading : MixAnswer → Outcome ℕ
-mix_reading (Counted count) = given count
-mix_reading (Refused refusal) = refused (refusal_number refusal)
+abbrev pub mix_reading : Result ℕ Refusal → Outcome ℕ
+mix_reading = outcome_of (λ count. count)
 
 abbrev pub count_of_mixes : List ℕ → List ℕ → ℕ → (lent : ℕ) → Outcome ℕ
 count_of_mixes daytime night N' lent = outcome (first_of (mix_rules daytime night N' lent)) (length (mixes_of daytime night N'))

@@ -10,8 +10,6 @@ ghost use Rattle.mixes.specs.Answers.{is_measured_outside, table_size, mix_rules
 ghost use Rattle.mixes.specs.Ways.{
   fits,
   least_of,
-  at_least,
-  at_most,
   Between,
   sum_below,
   with_class,
@@ -34,78 +32,49 @@ ghost use Rattle.mixes.specs.Ways.{
 };
 
 use method::Count;
-use quantity::{Check, Refusal};
-
-// How many mixes would pass, or why they are not counted.
-#[derive(Clone, Copy)]
-pub enum MixAnswer {
-    Counted(u64),
-    Refused(Refusal),
-}
+use quantity::Refusal;
+use std::ops::Range;
 
 // No more classes are counted.
 const MOST_CLASSES: usize = 8;
-
-// The counts of a class that fit: those from `first` on, below `end`.
-#[derive(Clone, Copy)]
-struct Range {
-    first: u64,
-    end: u64,
-}
-
-// A number, but not below a least one.
-fn at_least(least: u64, number: u64) -> u64
-    ensures { result ≡ at_least least number }
-{
-    if number < least { least } else { number }
-}
-
-// A number, but not above a most one.
-fn at_most(most: u64, number: u64) -> u64
-    ensures { result ≡ at_most most number }
-{
-    if most < number { most } else { number }
-}
 
 // A class that has flights must have an event.
 fn least_of(flights: u64) -> u64
     ensures { result ≡ least_of flights }
 {
-    if flights == 0 { 0 } else { 1 }
+    flights.min(1)
 }
 
 // The counts of a class that fit. Twenty times n'k N lies from 20 nk N' - N N' to 20 nk N' + N N', which is divided by 20 N, upwards at the first and downwards at
 // the last.
-fn fit_range(flights: u64, all: Count) -> Range
+fn fit_range(flights: u64, all: Count) -> Range<u64>
     requires { Asked all × (flights ≤ most_of_class) }
-    ensures { Between (fits all flights) result.first result.end }
+    ensures { Between (fits all flights) result.start result.end }
 {
-    let share = 20 * (flights * all.events as u64);
-    let tolerance = all.flights as u64 * all.events as u64;
-    let unit = 20 * all.flights as u64;
-    let first = at_least(
-        least_of(flights),
-        (method::excess(share, tolerance) + (unit - 1)) / unit,
-    );
-    let end = at_least(first, at_most(flights, (share + tolerance) / unit) + 1);
-    Range { first, end }
+    let (all_flights, all_events) = (u64::from(all.flights), u64::from(all.events));
+    let share = 20 * (flights * all_events);
+    let tolerance = all_flights * all_events;
+    let unit = 20 * all_flights;
+    let lowest = share.saturating_sub(tolerance).div_ceil(unit);
+    let highest = (share + tolerance) / unit;
+    let first = lowest.max(least_of(flights));
+    let end = (highest.min(flights) + 1).max(first);
+    first..end
 }
 
 // Of no class there is one list, whose sum is 0.
 fn lists_of_no_class(sum: usize) -> u64
     ensures { result ≡ no_class sum }
 {
-    if sum == 0 { 1 } else { 0 }
+    u64::from(sum == 0)
 }
 
 // The row of no class.
 fn start_row(row: &mut [u64])
     ensures { Tabulates row.new (length row.old) no_class }
 {
-    let mut i = 0;
-    while i < row.len() {
-        row[i] = lists_of_no_class(i);
-        i += 1;
+    for (sum, number) in row.iter_mut().enumerate() {
+        *number = lists_of_no_class(sum);
     }
 }
 
@@ -115,11 +84,9 @@ fn accumulate(row: &mut [u64])
     ensures { Tabulates row.new (length row.old) (λ s. sum_below (cells row.old) (suc s)) }
 {
     let mut sum: u64 = 0;
-    let mut i = 0;
-    while i < row.len() {
-        sum += row[i];
-        row[i] = sum;
-        i += 1;
+    for number in row.iter_mut() {
+        sum += *number;
+        *number = sum;
     }
 }
 
@@ -129,9 +96,10 @@ fn number_back(row: &[u64], place: usize, steps: usize) -> u64
     ensures { result ≡ back row.now place steps }
 {
     if steps <= place {
-        return row[place - steps];
+        row[place - steps]
+    } else {
+        0
     }
-    0
 }
 
 // A number of a row becomes what stands `first` places before it less what stands `end` places before it.
@@ -149,22 +117,18 @@ fn subtract_back(row: &mut [u64], first: usize, end: usize)
     requires { (first ≤ end) × Rising row.old }
     ensures { Tabulates row.new (length row.old) (λ s. back row.old s first - back row.old s end) }
 {
-    let last = row.len();
-    let mut passed = 1;
-    while passed <= last {
-        let place = last - passed;
+    for place in (0..row.len()).rev() {
         subtract_at(row, place, first, end);
-        passed += 1;
     }
 }
 
 // One class more: the lists of the classes so far, by their sums, behind each count of the class that fits.
-fn add_class(row: &mut [u64], range: Range)
-    requires { (range.first ≤ range.end) × (sum_below (cells row.old) (length row.old) < 2 ^ 64) }
-    ensures { (fit : ℕ → Bool) → Between fit range.first range.end → Tabulates row.new (length row.old) (with_class fit (cells row.old)) }
+fn add_class(row: &mut [u64], range: Range<u64>)
+    requires { (range.start ≤ range.end) × (sum_below (cells row.old) (length row.old) < 2 ^ 64) }
+    ensures { (fit : ℕ → Bool) → Between fit range.start range.end → Tabulates row.new (length row.old) (with_class fit (cells row.old)) }
 {
     accumulate(row);
-    subtract_back(row, range.first as usize, range.end as usize);
+    subtract_back(row, range.start as usize, range.end as usize);
 }
 
 // The flights of a class, by day and night.
@@ -172,8 +136,7 @@ fn flights_of(daytime: &[u16], night: &[u16], class: usize) -> u64
     requires { (class < length daytime.now) × (class < length night.now) }
     ensures { (result ≡ get_or (both_periods daytime.now night.now) class 0) × (result ≤ most_of_class) }
 {
-    let flights = method::widened(daytime[class]) + method::widened(night[class]);
-    flights as u64
+    u64::from(daytime[class]) + u64::from(night[class])
 }
 
 // The row from a place on becomes that of the row behind it.
@@ -181,12 +144,8 @@ fn copy_row(table: &mut [u64], at: usize, size: usize)
     requires { at + size + size ≤ length table.old }
     ensures { Copied table.old table.new at size }
 {
-    let from = at + size;
-    let mut i = 0;
-    while i < size {
-        table[at + i] = table[from + i];
-        i += 1;
-    }
+    let behind = at + size;
+    table.copy_within(behind..behind + size, at);
 }
 
 // A class's row begins as the row behind it, and that of the last class as the row of no class.
@@ -197,18 +156,17 @@ fn begin_row(table: &mut [u64], at: usize, size: usize)
     let end = at + size;
     if end < table.len() {
         copy_row(table, at, size);
-        return;
+    } else {
+        start_row(&mut table[at..end]);
     }
-    start_row(&mut table[at..end]);
 }
 
 // The row from a place on takes in a class.
-fn put_class(table: &mut [u64], at: usize, size: usize, range: Range)
-    requires { (range.first ≤ range.end) × RowFits table.old at size }
-    ensures { ClassPut table.old table.new at size range.first range.end }
+fn put_class(table: &mut [u64], at: usize, size: usize, range: Range<u64>)
+    requires { (range.start ≤ range.end) × RowFits table.old at size }
+    ensures { ClassPut table.old table.new at size range.start range.end }
 {
-    let end = at + size;
-    add_class(&mut table[at..end], range);
+    add_class(&mut table[at..at + size], range);
 }
 
 // A row for each class, the last one first; the first class's row is that of all classes.
@@ -216,9 +174,7 @@ fn fill_table(table: &mut [u64], daytime: &[u16], night: &[u16], all: Count, siz
     requires { Booked daytime.now night.now all × (length table.old ≡ length daytime.now * size) × (1 ≤ size) }
     ensures { Tabulates (part table.new 0 size) size (ways all (both_periods daytime.now night.now)) }
 {
-    let mut class = daytime.len();
-    while 0 < class {
-        class -= 1;
+    for class in (0..daytime.len()).rev() {
         let at = class * size;
         begin_row(table, at, size);
         let range = fit_range(flights_of(daytime, night, class), all);
@@ -249,44 +205,43 @@ fn is_measured_outside(daytime: &[u16], night: &[u16], measured: u32) -> bool
     requires { is_book_invalid daytime.now night.now ≡ false }
     ensures { result ≡ is_measured_outside daytime.now night.now measured }
 {
-    if measured == 0 {
-        return true;
-    }
-    ledger::flights_of_book(daytime, night) < measured
+    measured == 0 || ledger::flights_of_book(daytime, night) < measured
 }
 
 // Refusals 10, 24, 25 and 26, or none.
-fn check_mixes(daytime: &[u16], night: &[u16], measured: u32, lent: usize) -> Check
+fn check_mixes(daytime: &[u16], night: &[u16], measured: u32, lent: usize) -> Result<(), Refusal>
     ensures { check_number result ≡ first_of (mix_rules daytime.now night.now measured lent) }
 {
     if ledger::is_book_invalid(daytime, night) {
-        return Check::Refused(Refusal::BookInvalid);
+        return Err(Refusal::BookInvalid);
     }
     if MOST_CLASSES < daytime.len() {
-        return Check::Refused(Refusal::TooManyClasses);
+        return Err(Refusal::TooManyClasses);
     }
     if is_measured_outside(daytime, night, measured) {
-        return Check::Refused(Refusal::MeasuredOutside);
+        return Err(Refusal::MeasuredOutside);
     }
     if lent < table_size(daytime.len(), measured) {
-        return Check::Refused(Refusal::TableTooShort);
+        return Err(Refusal::TableTooShort);
     }
-    Check::Passed
+    Ok(())
 }
 
 // Counts the mixes of so many measured flights that would pass on a book: for each class the flights by day and by night. The table is lent for the rows, which
 // are left free; what is lent beyond them stays, and at a refusal all of it.
-pub fn count_mixes(daytime: &[u16], night: &[u16], measured: u32, table: &mut [u64]) -> MixAnswer
+pub fn count_mixes(
+    daytime: &[u16],
+    night: &[u16],
+    measured: u32,
+    table: &mut [u64],
+) -> Result<u64, Refusal>
     ensures { Answered daytime.now night.now measured table.old (mix_reading result) table.new }
 {
-    let check = check_mixes(daytime, night, measured, table.len());
-    if let Check::Refused(refusal) = check {
-        return MixAnswer::Refused(refusal);
-    }
+    check_mixes(daytime, night, measured, table.len())?;
     let all = Count {
         flights: ledger::flights_of_book(daytime, night),
         events: measured,
     };
     let size = table_size(daytime.len(), measured);
-    MixAnswer::Counted(count_in(&mut table[..size], daytime, night, all))
+    Ok(count_in(&mut table[..size], daytime, night, all))
 }

@@ -1,3 +1,2 @@
 -- The laws that the proofs of `offering` share.
 pub mod Answers
-pub mod Entering

@@ -27,9 +27,8 @@ module _ {movements peaks : List ℕ} {tolerance : ℕ} {lent : Marks} where
   kept (paired r l) e = let z : ◌≡◌ {A = ℕ} 0 1 = cc in absurd (omega arith)
 
 -- marks that are cleared are as many as before
-pub ready : (times marks cleared : List ℕ) → unfit times marks ≡ false → cleared ≡ replicate (length marks) 0
-    → (unfit times cleared ≡ false) × (cleared ≡ replicate (length cleared) 0)
+pub still_fit : (times marks cleared : List ℕ) → unfit times marks ≡ false → cleared ≡ replicate (length marks) 0 → unfit times cleared ≡ false
 unfolding unfit
-ready times marks cleared h e =
+still_fit times marks cleared h e =
     let l : length cleared ≡ length marks = ap length e ∙ length-replicate (length marks) 0 in
-    rw l (h, e)
+    rw l h

@@ -10,8 +10,8 @@ use native.Mathlib.Omega.{arith}
 use native.Mathlib.Numerals.{add-one}
 use borrow.Author.Tests.{eqb-true, eqb-false}
 use lib.Dec.{eqb}
-use lib.ListN.{length, get_or, set, replicate, length-set, length-replicate}
-use lib.Seq.{get_or-set_same, get_or-set_other, ext_get_or}
+use lib.ListN.{length, get_or, set, replicate}
+use lib.Seq.{get_or-set_same, get_or-set_other}
 use Rattle.quantity.specs.Lists.{Each}
 use Rattle.quantity.proofs.Tests.{test}
 use Rattle.quantity.proofs.Lists.{zero_at}
@@ -21,30 +21,6 @@ use Rattle.pairing.specs.Pairing.{Pair, Near, Pairing, pairs_from, Largest}
 no_pairs : (i n : ℕ) → length (pairs_from i (replicate n 0)) ≡ 0
 no_pairs i zero = refl
 no_pairs i (suc n) = no_pairs (suc i) n
-
--- the marks that are passed are cleared
-pub record Cleared (marks₀ marks : List ℕ) (i : ℕ) : Type 0 where
-  pub as_long : length marks ≡ length marks₀
-  pub cleared : (k : ℕ) → k < i → get_or marks k 0 ≡ 0
-
-pub cleared_none : (marks : List ℕ) → Cleared marks marks 0
-cleared_none marks = record { as_long = refl; cleared = λ k h. absurd (omega arith) }
-
-module _ {marks₀ marks : List ℕ} {i : ℕ} (p : Cleared marks₀ marks i) where
-  pub cleared_more : i < length marks → Cleared marks₀ (set marks i 0) (i + 1)
-  cleared_more h =
-      record {
-        as_long = length-set marks i 0 ∙ p.as_long;
-        cleared = λ k l.
-            test (eqb k i)
-            (λ t. rw (eqb-true k i t, get_or-set_same marks i 0 0 h))
-            (λ t. let n = eqb-false k i t in get_or-set_other marks i k 0 0 n ∙ p.cleared k (omega (arith, n)));
-      }
-
-  pub cleared_all : length marks ≤ i → marks ≡ replicate (length marks₀) 0
-  cleared_all h =
-      ext_get_or 0 marks (replicate (length marks₀) 0) (p.as_long ∙ sym (length-replicate (length marks₀) 0))
-      (λ k l. p.cleared k (omega arith) ∙ sym (zero_at (length marks₀) k))
 
 -- a mark in the place of a 0 names one pair more
 pairs_more : (i : ℕ) (marks : List ℕ) (k j : ℕ) → k < length marks → get_or marks k 0 ≡ 0

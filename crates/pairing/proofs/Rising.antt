@@ -1,60 +1,42 @@
 -- Lists that do not fall, one time after the other, and lists that are not refused.
 use mathlib.Core.Path.{◌≡◌, refl, sym, ◌∙◌}
-use mathlib.Core.Bool.{true, false, not, ◌||◌, or-true, or-false}
+use native.Mathlib.Numerals.{add-one}
+use mathlib.Core.Bool.{Bool, true, false, not, ◌||◌, or-true, or-false}
 use mathlib.Core.List.{List, [], ◌∷◌}
-use Prim.Native.Nat.{ℕ, zero, suc, ◌+◌, ◌-◌, ◌≤◌, ◌<◌}
+use Prim.Native.Nat.{ℕ, zero, suc, ◌≤◌, ◌<◌}
 use native.Mathlib.Omega.{arith}
+use Rattle.std.proofs.lemmas.Bool.{not-true}
+use Rattle.std.specs.List.{IsAllAdjacentAnswer}
+use lib.IntN.{ℤ, pos}
+use Rattle.quantity.specs.Instants.{ticks_of}
+use Rattle.pairing.specs.Pairing.{instants}
 use borrow.Author.Tests.{lt-ltb, le-ltb, ltb-false, eq-eqb, ne_eqb, eqb-true, not-false}
 use lib.Dec.{ltb, eqb}
-use lib.ListN.{length, get_or, drop, set, length-set}
+use lib.ListN.{length, get_or, set, length-set}
 use Rattle.quantity.proofs.Tests.{neither}
 use Rattle.pairing.specs.Answers.{most_entries, falls, unfit}
 
--- a fall at a place, none there, and the last place
-falls_at : (s : List ℕ) (i : ℕ) → suc i < length s → ltb (get_or s (suc i) 0) (get_or s i 0) ≡ true → falls (drop i s) ≡ true
+-- a fall at a place, and none at any
+abbrev pub FallsAt : List ℤ → ℕ → Bool → Type 0
+FallsAt times k b = ltb (ticks_of (get_or times (suc k) (pos 0))) (ticks_of (get_or times k (pos 0))) ≡ b
+
+fall_at : (times : List ℤ) (k : ℕ) → suc k < length times → FallsAt times k true → falls (instants times) ≡ true
 unfolding falls
-falls_at [] i h t = absurd (omega arith)
-falls_at (a ∷ []) i h t = absurd (omega arith)
-falls_at (a ∷ b ∷ s) zero h t = rw t
-falls_at (a ∷ b ∷ s) (suc i) h t = falls_at (b ∷ s) i (omega arith) t
+fall_at [] k h t = absurd (omega arith)
+fall_at (a ∷ []) k h t = absurd (omega arith)
+fall_at (a ∷ b ∷ times) zero h t = rw t
+fall_at (a ∷ b ∷ times) (suc k) h t = rw (fall_at (b ∷ times) k (omega arith) t) (or-true _)
 
-falls_past : (s : List ℕ) (i : ℕ) → suc i < length s → ltb (get_or s (suc i) 0) (get_or s i 0) ≡ false → falls (drop i s) ≡ falls (drop (suc i) s)
+fall_nowhere : (times : List ℤ) → ((k : ℕ) → suc k < length times → FallsAt times k false) → falls (instants times) ≡ false
 unfolding falls
-falls_past [] i h t = absurd (omega arith)
-falls_past (a ∷ []) i h t = absurd (omega arith)
-falls_past (a ∷ b ∷ s) zero h t = rw t
-falls_past (a ∷ b ∷ s) (suc i) h t = falls_past (b ∷ s) i (omega arith) t
+fall_nowhere [] h = refl
+fall_nowhere (a ∷ []) h = refl
+fall_nowhere (a ∷ b ∷ times) h = rw (h 0 (omega arith)) (fall_nowhere (b ∷ times) (λ k l. h (suc k) (omega arith)))
 
-falls_last : (s : List ℕ) (i : ℕ) → length s ≤ suc i → falls (drop i s) ≡ false
-unfolding falls
-falls_last [] zero h = refl
-falls_last [] (suc i) h = refl
-falls_last (a ∷ []) zero h = refl
-falls_last (a ∷ b ∷ s) zero h = absurd (omega arith)
-falls_last (a ∷ s) (suc i) h = falls_last s i (omega arith)
-
--- a list falls where its rest from the time before a place falls
-pub record FallsFrom (s : List ℕ) (i : ℕ) : Type 0 where
-  pub begun : 0 < i
-  pub rest : falls (drop (i - 1) s) ≡ falls s
-
-pub from_first : (s : List ℕ) → FallsFrom s 1
-from_first s = record { begun = omega arith; rest = refl }
-
-module _ {s : List ℕ} {i : ℕ} (p : FallsFrom s i) where
-  next : suc (i - 1) ≡ i
-  next = omega (arith, p.begun)
-
-  pub from_next : i < length s → ltb (get_or s i 0) (get_or s (i - 1) 0) ≡ false → FallsFrom s (i + 1)
-  from_next h t =
-      let e : (i + 1) - 1 ≡ suc (i - 1) = omega (arith, p.begun) in
-      record { begun = omega arith; rest = rw (e, ← falls_past s (i - 1) (omega (arith, next)) (rw next t)) p.rest }
-
-  pub from_fall : i < length s → ltb (get_or s i 0) (get_or s (i - 1) 0) ≡ true → true ≡ falls s
-  from_fall h t = rw (← p.rest, falls_at s (i - 1) (omega (arith, next)) (rw next t))
-
-  pub from_last : length s ≤ i → false ≡ falls s
-  from_last h = rw (← p.rest, falls_last s (i - 1) (omega (arith, next)))
+-- a list is sorted where each time is not earlier than the one before, and falls otherwise
+pub sorted : (times : List ℤ) (r : Bool) → IsAllAdjacentAnswer (λ x y b. b ≡ not (ltb (ticks_of y) (ticks_of x))) times r → not r ≡ falls (instants times)
+sorted times true h = sym (fall_nowhere times (λ k l. rw add-one at (not-true _ (sym (h k (pos 0) (omega arith))))))
+sorted times false h = sym (fall_at times h.0 (omega (arith, h.1)) (rw add-one at (not-false _ (sym (h.2 (pos 0))))))
 
 -- 'rising': a later time is not less
 pub rising : (s : List ℕ) → falls s ≡ false → (i j : ℕ) → i ≤ j → j < length s → get_or s i 0 ≤ get_or s j 0

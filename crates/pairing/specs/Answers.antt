@@ -1,10 +1,9 @@
 -- Document 02, W-203: which calls are refused, what a call answers, and the marks that it leaves.
-use Rattle.std.specs.Prelude.{◌≡◌, Bool, false, not, ◌||◌, List, [], ◌∷◌, ℕ, suc, ltb, eqb, length}
-use Rattle.quantity.specs.Answers.{refusal_number}
+use Rattle.std.specs.Prelude.{◌≡◌, Bool, false, not, ◌||◌, List, [], ◌∷◌, ℕ, suc, ltb, eqb, length, Result}
+use Rattle.quantity.specs.Answers.{outcome_of}
 use Rattle.quantity.specs.Rules.{Rule, first_of, Outcome, refused, given}
+use Rattle.quantity.specs.declared.Refusal.{Refusal}
 use Rattle.pairing.specs.Pairing.{Marks, Largest}
-use Rattle.pairing.specs.declared.PairingAnswer.{PairingAnswer}
-use Rattle.pairing.specs.declared.PairingAnswer.TheVariants.{Paired, Refused}
 
 -- 'longer than 2000'
 abbrev pub most_entries : ℕ
@@ -26,9 +25,8 @@ pairing_rules movements peaks lent =
     record { number = 19; refuses = unfit movements lent.movements || unfit peaks lent.peaks } ∷ []
 
 -- the count of the pairs given, or the number of a refusal
-abbrev pub pairing_reading : PairingAnswer → Outcome ℕ
-pairing_reading (Paired count) = given count
-pairing_reading (Refused refusal) = refused (refusal_number refusal)
+abbrev pub pairing_reading : Result ℕ Refusal → Outcome ℕ
+pairing_reading = outcome_of (λ count. count)
 
 -- what a call answers and the marks that it leaves, for the marks that it was lent: 'Marks on a refusal stay untouched', and
 -- 'which of several largest pairings is given is left free'

@@ -1,12 +1,8 @@
 -- Laws of powers that the library lacks.
 use mathlib.Core.Path.{◌≡◌}
 use Prim.Native.Nat.{ℕ, zero, suc, ◌*◌, ◌^◌, ◌<◌}
-use native.Mathlib.Nat.{mul_assoc, mul_comm, mul_left_comm, mul-zero, mul-suc, pow-zero, pow-suc, pow-le-pow_left, lt_of_not-le, not-le_of_lt}
+use native.Mathlib.Nat.{mul-zero, mul-suc, pow-zero, pow-suc, pow-le-pow_left, lt_of_not-le, not-le_of_lt}
 use lib.Pow.{pow-add}
-
-pub mul_pow : (a b n : ℕ) → (a * b) ^ n ≡ a ^ n * b ^ n
-mul_pow a b zero = simp pow-zero
-mul_pow a b (suc n) = simp (pow-suc, mul_pow a b n, mul_assoc, mul_comm, mul_left_comm)
 
 pub pow_pow : (a m n : ℕ) → (a ^ m) ^ n ≡ a ^ (m * n)
 pow_pow a m zero = simp (pow-zero, mul-zero)

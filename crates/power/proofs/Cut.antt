@@ -6,7 +6,8 @@ use native.Mathlib.Omega.{arith}
 use lib.Dec.{lit<}
 use lib.Pow.{pow-add}
 use Rattle.power.specs.Power.{X, m, G}
-use Rattle.power.proofs.Arithmetic.{mul_pow, pow_pow, lt_of_pow}
+use Rattle.std.proofs.lemmas.Nat.{mul-pow}
+use Rattle.power.proofs.Arithmetic.{pow_pow, lt_of_pow}
 use Rattle.power.proofs.Search.{root_law}
 
 -- u ≤ k * 10 ^ (c / 1000) < v
@@ -24,24 +25,24 @@ ten_rises {i} h = lt_of_lt_of_le (rw pow-suc (omega (arith, one-le-pow i 10 (lit
 pub under : {k c u v : ℕ} → 0 < k → c < 1000 → Cut k c u v → u < k * 10
 under {k} {c} p h a =
     lt_of_pow 1000
-    (rw (mul_pow k 10 1000) (lt_of_le_of_lt a.low (mul-lt-mul_of_pos_left (ten_rises h) (one-le-pow 1000 k p))))
+    (rw (mul-pow k 10 1000) (lt_of_le_of_lt a.low (mul-lt-mul_of_pos_left (ten_rises h) (one-le-pow 1000 k p))))
 
 -- two cuts at one level compare
 pub cross : {k l c u v x y : ℕ} → 0 < k → Cut k c u v → Cut l c x y → u * l < y * k
 cross {k} {l} {u = u} {y = y} p a b =
     lt_of_pow 1000
-    (rw (mul_pow u l 1000, mul_pow y k 1000)
+    (rw (mul-pow u l 1000, mul-pow y k 1000)
     (omega (arith, mul-le-mul_right (l ^ 1000) a.low, mul-lt-mul_of_pos_right b.high (one-le-pow 1000 k p))))
 
 -- levels add up in a product
 pub join : {k l c d u v x y : ℕ} → Cut k c u v → Cut l d x y → Cut (k * l) (c + d) (u * x) (v * y)
 join {k} {l} {c} {d} {u} {v} {x} {y} a b =
     let powers : (k * l) ^ 1000 * 10 ^ (c + d) ≡ k ^ 1000 * 10 ^ c * (l ^ 1000 * 10 ^ d) =
-    rw (mul_pow k l 1000, pow-add 10 c d, mul-mul-mul_comm (k ^ 1000) (10 ^ c) (l ^ 1000) (10 ^ d)) in
+    rw (mul-pow k l 1000, pow-add 10 c d, mul-mul-mul_comm (k ^ 1000) (10 ^ c) (l ^ 1000) (10 ^ d)) in
     record {
-      low = rw (powers, mul_pow u x 1000) (mul-le-mul a.low b.low);
+      low = rw (powers, mul-pow u x 1000) (mul-le-mul a.low b.low);
       high =
-          rw (powers, mul_pow v y 1000)
+          rw (powers, mul-pow v y 1000)
           (lt_of_le_of_lt (mul-le-mul_left (k ^ 1000 * 10 ^ c) (le_of_lt b.high)) (mul-lt-mul_of_pos_right a.high (omega (arith, b.high))));
     }
 
@@ -55,9 +56,9 @@ cut q c u v l h = record { low = rw (← tens q c) l; high = rw (← tens q c) h
 pub up : {k c u v : ℕ} (q : ℕ) → Cut k c u v → Cut k (1000 * q + c) (u * 10 ^ q) (v * 10 ^ q)
 up {k} {c} {u} {v} q a =
     record {
-      low = rw (tens q c, mul_pow u (10 ^ q) 1000) (omega (arith, mul-le-mul_right ((10 ^ q) ^ 1000) a.low));
+      low = rw (tens q c, mul-pow u (10 ^ q) 1000) (omega (arith, mul-le-mul_right ((10 ^ q) ^ 1000) a.low));
       high =
-          rw (tens q c, mul_pow v (10 ^ q) 1000)
+          rw (tens q c, mul-pow v (10 ^ q) 1000)
           (omega (arith, mul-lt-mul_of_pos_right a.high (one-le-pow 1000 (10 ^ q) (one-le-pow q 10 (lit< tt)))));
     }
 

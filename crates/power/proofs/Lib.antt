@@ -3,5 +3,5 @@ pub mod Arithmetic
 pub mod Search
 pub mod Cut
 pub mod Table
-pub mod ConstantRows
+pub mod ConstantTable
 pub mod Scale

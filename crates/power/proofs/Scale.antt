@@ -8,7 +8,8 @@ use native.Mathlib.Omega.{arith}
 use lib.Dec.{lit<, lit≤}
 use lib.Pow.{pow-add}
 use Rattle.power.specs.Power.{X, m, e, G}
-use Rattle.power.proofs.Arithmetic.{mul_pow, lt_of_pow}
+use Rattle.std.proofs.lemmas.Nat.{mul-pow}
+use Rattle.power.proofs.Arithmetic.{lt_of_pow}
 use Rattle.power.proofs.Search.{root_only}
 use Rattle.power.proofs.Cut.{Cut, over, cross, join, up, X_cut}
 
@@ -101,17 +102,3 @@ e_higher k c =
     let r : (1000 * k + c) % 1000 ≡ c % 1000 = omega arith in
     let d : (1000 * k + c) / 1000 ≡ k + c / 1000 = omega arith in
     rw (r, d, pow-add 10 k (c / 1000)) (mul_left_comm (m (c % 1000)) (10 ^ k) (10 ^ (c / 1000)))
-
--- where d ^ 1000 has b digits, the mantissas from place b on begin with d or a higher digit, and those before do not
-pub digit_reached : (d b : ℕ) → 10 ^ b ≤ d ^ 1000 → m b ≤ d * G
-digit_reached d b h =
-    let low : m b ^ 1000 ≤ (d * G) ^ 1000 =
-    rw (mul_pow d G 1000) (le_trans (X_cut 9 b).low (rw (mul_comm (d ^ 1000) (G ^ 1000)) (mul-le-mul_left (G ^ 1000) h))) in
-    let next : (d * G) ^ 1000 < (d * G + 1) ^ 1000 = pow-lt-pow_left (omega arith) (omega arith) in
-    omega (arith, lt_of_pow 1000 (lt_of_le_of_lt low next))
-
-pub digit_passed : (d b : ℕ) → d ^ 1000 ≤ 10 ^ b → d * G ≤ m b
-digit_passed d b h =
-    let high : (d * G) ^ 1000 < (m b + 1) ^ 1000 =
-    rw (mul_pow d G 1000) (lt_of_le_of_lt (rw (mul_comm (d ^ 1000) (G ^ 1000)) (mul-le-mul_left (G ^ 1000) h)) (X_cut 9 b).high) in
-    omega (arith, lt_of_pow 1000 high)

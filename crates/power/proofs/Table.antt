@@ -1,4 +1,4 @@
--- A row of the table: a test that is computed at each entry, carried to every place of the row; rows behind each other; a table that is filled row by row.
+-- A run of the table: a test that is computed at each entry, carried to every place of the run; runs behind each other.
 use mathlib.Core.Path.{◌≡◌, sym, subst, ◌∙◌}
 use mathlib.Core.Bool.{Bool, true, false, ◌&&◌}
 use mathlib.Core.List.{List, [], ◌∷◌}
@@ -6,10 +6,9 @@ use Prim.Native.Nat.{ℕ, zero, suc, ◌+◌, ◌-◌, ◌^◌, ◌≤◌, ◌<�
 use native.Mathlib.Decide.{dec_lt}
 use native.Mathlib.Omega.{arith}
 use lib.Dec.{T, leb, ltb, leb→le, ltb→lt, lit<}
-use lib.ListN.{length, get_or, set, take, drop, length-set, length-drop}
-use lib.Seq.{get_or-take, get_or-drop, get_or-set_same, get_or-set_other, length-take-le}
+use lib.ListN.{length, get_or, take, drop, length-drop}
+use lib.Seq.{get_or-take, get_or-drop, length-take-le}
 use Rattle.power.specs.Power.{X, m}
-use Rattle.power.specs.Table.{IsRow, HoldsTo, IsTable}
 use Rattle.power.proofs.Search.{root_only}
 
 pub both : (a b : Bool) → T (a && b) → T a × T b
@@ -42,13 +41,17 @@ passes (x ∷ xs) i t (suc k) h =
     let e : suc i + k ≡ i + suc k = omega arith in
     subst (λ (n : ℕ). T (right n (get_or xs k 0))) e (passes xs (suc i) (both (right i x) (every (suc i) xs) t).1 k (omega arith))
 
--- the test, computed over a list, makes it a row
-pub row : (from : ℕ) (xs : List ℕ) → T (every from xs) → IsRow from xs
-row from xs t = record { entry = λ k h. is_mantissa (from + k) (get_or xs k 0) (passes xs from t k h) }
+-- a run of mantissas: m(from), m(from + 1) and so on
+pub record IsRun (from : ℕ) (run : List ℕ) : Type 0 where
+  pub entry : (k : ℕ) → k < length run → get_or run k 0 ≡ m (from + k)
 
--- two rows behind each other
-pub rows : (from n : ℕ) (xs : List ℕ) → n ≤ length xs → IsRow from (take n xs) → IsRow (from + n) (drop n xs) → IsRow from xs
-rows from n xs w a b = record { entry = λ k h. elim (dec_lt k n) [ yes u ↦ front k u | no v ↦ back k h (omega arith) ] }
+-- the test, computed over a list, makes it a run
+pub run : (from : ℕ) (xs : List ℕ) → T (every from xs) → IsRun from xs
+run from xs t = record { entry = λ k h. is_mantissa (from + k) (get_or xs k 0) (passes xs from t k h) }
+
+-- two runs behind each other
+pub runs : (from n : ℕ) (xs : List ℕ) → n ≤ length xs → IsRun from (take n xs) → IsRun (from + n) (drop n xs) → IsRun from xs
+runs from n xs w a b = record { entry = λ k h. elim (dec_lt k n) [ yes u ↦ front k u | no v ↦ back k h (omega arith) ] }
   where
     front : (k : ℕ) → k < n → get_or xs k 0 ≡ m (from + k)
     front k u = sym (get_or-take n xs k 0 u) ∙ a.entry k (rw (length-take-le n xs w) u)
@@ -58,31 +61,3 @@ rows from n xs w a b = record { entry = λ k h. elim (dec_lt k n) [ yes u ↦ fr
         let i : n + (k - n) ≡ k = omega arith in
         let f : from + n + (k - n) ≡ from + k = omega arith in
         rw (get_or-drop n xs (k - n) 0, i, f) at (b.entry (k - n) (omega (arith, length-drop n xs)))
-
--- a mantissa is looked up by its place in the table
-pub row_at : {from : ℕ} {xs : List ℕ} → IsRow from xs → (f : ℕ) → from ≤ f → f < from + length xs → get_or xs (f - from) 0 ≡ m f
-row_at {from} r f l h = let e : from + (f - from) ≡ f = omega arith in rw e at (r.entry (f - from) (omega arith))
-
--- the table is a row
-pub table_row : {table : List ℕ} → IsTable table → IsRow 0 table
-table_row t = record { entry = λ k h. let e : 0 + k ≡ k = omega arith in rw e (t.entry k (omega (arith, t.size))) }
-
--- a table is filled from its first place on, one place with each turn
-pub holds_none : {table : List ℕ} → length table ≡ 1000 → HoldsTo 0 table
-holds_none l = record { size = l; entry = λ f h. absurd (omega arith) }
-
-pub holds_as : {table : List ℕ} {n k : ℕ} → n ≡ k → HoldsTo n table → HoldsTo k table
-holds_as e h = rw (← e) h
-
-pub holds_more : {table : List ℕ} {n x : ℕ} → n < 1000 → x ≡ m n → HoldsTo n table → HoldsTo (n + 1) (set table n x)
-holds_more {table} {n} {x} w e h =
-    record {
-      size = length-set table n x ∙ h.size;
-      entry = λ f l. elim (dec_lt f n) [ yes u ↦ before f u | no v ↦ new f (omega arith) ];
-    }
-  where
-    before : (f : ℕ) → f < n → get_or (set table n x) f 0 ≡ m f
-    before f u = get_or-set_other table n f x 0 (omega arith) ∙ h.entry f u
-
-    new : (f : ℕ) → f ≡ n → get_or (set table n x) f 0 ≡ m f
-    new f v = rw v (get_or-set_same table n x 0 (omega (arith, h.size)) ∙ e)

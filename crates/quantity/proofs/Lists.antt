@@ -1,5 +1,8 @@
--- Lists: what holds for each entry of one, and lists of one and the same entry.
-use Rattle.std.proofs.Common.{◌≡◌, ℕ, zero, suc, List, [], ◌∷◌, get_or, set, replicate, refl}
+-- Lists: what holds for each entry of one, lists of one and the same entry, and chunks of one.
+use Rattle.std.proofs.Common.{◌≡◌, ℕ, zero, suc, ◌+◌, ◌*◌, ◌<◌, List, [], ◌∷◌, get_or, set, take, drop, replicate, refl, ap, ◌∙◌}
+use Rattle.std.specs.Simd.{first_chunks}
+use native.Mathlib.Omega.{arith}
+use lib.Seq.{drop-drop}
 use Rattle.quantity.specs.Lists.{Each}
 
 pub each_map : {A : Type 0} {P Q : A → Type 0} → ((x : A) → P x → Q x) → (xs : List A) → Each P xs → Each Q xs
@@ -31,3 +34,11 @@ same_at x (suc n) (suc k) = same_at x n k
 
 pub zero_at : (n k : ℕ) → ◌≡◌ {A = ℕ} (get_or (replicate n 0) k 0) 0
 zero_at = same_at 0
+
+-- a chunk of a list by its place
+pub chunk_at : {A : Type 0} (n k : ℕ) (xs : List A) (i : ℕ) → i < k → get_or (first_chunks n k xs) i [] ≡ take n (drop (i * n) xs)
+chunk_at n zero xs i h = absurd (omega arith)
+chunk_at n (suc k) xs zero h = let e : zero * n ≡ 0 = omega arith in rw e refl
+chunk_at n (suc k) xs (suc i) h =
+    let e : n + i * n ≡ suc i * n = omega arith in
+    chunk_at n k (drop n xs) i (omega arith) ∙ ap (take n) (drop-drop (i * n) n xs ∙ ap (λ (j : ℕ). drop j xs) e)

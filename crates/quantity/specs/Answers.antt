@@ -1,14 +1,12 @@
 -- What each case of an answer stands for in document 01: its number, or its value.
 use Rattle.std.proofs.Math.Option.{Option, some, none}
-use Rattle.std.specs.Prelude.{ℕ, ℤ}
+use Rattle.std.specs.Prelude.{ℕ, ℤ, Some, None, Result, Ok, Err}
+use Rattle.std.specs.Prelude as std
 use Rattle.quantity.specs.declared.Reading as declared
 use Rattle.quantity.specs.declared.Reading.TheVariants as readings
-use Rattle.quantity.specs.declared.HighestLevel.{HighestLevel}
-use Rattle.quantity.specs.declared.HighestLevel.TheVariants as highests
+use Rattle.quantity.specs.declared.Level.{Level}
 use Rattle.quantity.specs.declared.Method.{Method}
 use Rattle.quantity.specs.declared.Method.TheVariants.{One, Two}
-use Rattle.quantity.specs.declared.Check.{Check}
-use Rattle.quantity.specs.declared.Check.TheVariants.{Passed, Refused}
 use Rattle.quantity.specs.declared.Refusal.{Refusal}
 use Rattle.quantity.specs.declared.Refusal.TheVariants as refusals
 use Rattle.quantity.specs.Rules.{Outcome, refused, given}
@@ -23,9 +21,9 @@ reading (readings.At l) = level l.0
 reading readings.BelowScale = below_scale
 
 -- 'Day': the highest Lmax, or none without events
-abbrev pub highest_reading : HighestLevel → Option ℕ
-highest_reading (highests.At l) = some l.0
-highest_reading highests.Nothing = none
+abbrev pub highest_reading : std.Option Level → Option ℕ
+highest_reading (Some l) = some l.0
+highest_reading None = none
 
 -- 'Day': method one or method two
 abbrev pub method_number : Method → ℕ
@@ -61,12 +59,16 @@ refusal_number refusals.TooManyClasses = 24
 refusal_number refusals.MeasuredOutside = 25
 refusal_number refusals.TableTooShort = 26
 
--- 'Refused calls': the number by which a call is refused, 0 where it is not
-abbrev pub check_number : Check → ℕ
-check_number Passed = 0
-check_number (Refused r) = refusal_number r
+-- 'Refused calls': what a call answers, the number of a refusal or a value by what it stands for
+abbrev pub outcome_of : {A B : Type 0} → (A → B) → Result A Refusal → Outcome B
+outcome_of stands_for (Ok a) = given (stands_for a)
+outcome_of stands_for (Err r) = refused (refusal_number r)
 
--- the same as an outcome: passed, or the number of the refusal
-abbrev pub check_outcome : Check → Outcome Unit
-check_outcome Passed = given tt
-check_outcome (Refused r) = refused (refusal_number r)
+-- the same of a call that gives no value: passed, or the number of the refusal
+abbrev pub check_outcome : Result (Unit {0}) Refusal → Outcome (Unit {0})
+check_outcome = outcome_of (λ none. none)
+
+-- the number by which a call is refused, 0 where it is not
+abbrev pub check_number : {A : Type 0} → Result A Refusal → ℕ
+check_number (Ok _) = 0
+check_number (Err r) = refusal_number r

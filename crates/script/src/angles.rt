@@ -1,20 +1,21 @@
 // The call `degrees` of a script, made through the function that C calls.
-use script_text::answers::Text;
-use script_text::{answers, bits, words};
+use crate::calls;
+use script_text::answers::{Bits, Text};
+use script_text::bits;
 
 // What stands before the call in what it is lent. No position has this number, and no angle this correction.
 const POSITION_BEFORE: u8 = 7;
 
 const CORRECTION_BEFORE: f64 = 7.0;
 
-// Where a point lies, or nothing where the call left that as it was.
+// Where a point lies, by its number in C, or nothing where the call left that as it was.
 fn with_position(text: Text, position: u8) -> Text {
     match position {
-        0 => answers::with_bytes(text, b" in front"),
-        1 => answers::with_bytes(text, b" beside"),
-        2 => answers::with_bytes(text, b" behind"),
+        0 => text.with("in front"),
+        1 => text.with("beside"),
+        2 => text.with("behind"),
         POSITION_BEFORE => text,
-        _ => answers::with_count(text, position as u32),
+        _ => text.with(position),
     }
 }
 
@@ -23,21 +24,17 @@ fn with_correction(text: Text, correction: f64) -> Text {
     if correction == CORRECTION_BEFORE {
         return text;
     }
-    answers::with_bits(text, correction)
+    text.with(Bits(correction))
 }
 
 // degrees ANGLE
 pub fn degrees(call: &[u8]) -> Text {
-    let mut values = [0.0; 1];
-    let behind_name = judging::place_of(call, 0, b' ');
-    bits::read_values(words::part(call, behind_name, call.len()), &mut values);
     let mut position = POSITION_BEFORE;
     let mut correction = CORRECTION_BEFORE;
     let answer = c_planning::moatburdock_correction_at_angle(
-        bits::value_at(&values, 0),
+        bits::read(call).at(0),
         &mut position,
         &mut correction,
     );
-    let text = answers::with_answer(answers::nothing(), answer);
-    with_correction(with_position(text, position), correction)
+    with_correction(with_position(calls::answered(answer), position), correction)
 }

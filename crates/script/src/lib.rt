@@ -10,8 +10,6 @@
 // one first. The numbers lent to mixes, and its count, are 7 before the call; ' beyond' at the end of its answer says that one of the numbers that stay was changed.
 #![tactic(auto)]
 
-ghost use Rattle.std.specs.Prelude.{◌≡◌, ◌≤◌, IfOk, length};
-
 mod angles;
 mod calls;
 mod campaigns;
@@ -20,7 +18,6 @@ mod pairs;
 mod thrusts;
 
 use judging::Progress;
-use script_text::words;
 use std::io;
 use std::io::{Read, Write};
 
@@ -30,144 +27,88 @@ const LONGEST_LINE: usize = 40960;
 // No script has more lines.
 const MOST_LINES: u32 = 1000000;
 
-// A line in the buffer: from a place up to another, and where the bytes that are held end.
-#[derive(Clone, Copy)]
-struct Line {
-    from: usize,
-    to: usize,
-    end: usize,
-}
-
-fn text<W: Write>(out: &mut W, bytes: &[u8]) -> io::Result<()> {
-    out.write_all(bytes)
-}
-
-// Writes the label of a call, what came, and what should come.
-fn show<W: Write>(out: &mut W, label: &[u8], came: &[u8], should: &[u8]) -> io::Result<()> {
-    text(out, label)?;
-    text(out, b":")?;
-    text(out, came)?;
-    text(out, b", should be")?;
-    text(out, should)?;
-    text(out, b"\n")
-}
-
-// Makes the call of a line whose label ends at a place, and counts it. Writes it where its answer is not right, or where every call is shown.
-fn run_call<W: Write>(
-    out: &mut W,
-    day: &mut [u32; 320],
+// A script as far as it is run: the day that its calls open and close, and how many calls were made.
+#[derive(Drop)]
+struct Script<'a, W> {
+    out: &'a mut W,
+    shows_all: bool,
+    day: [u32; 320],
     progress: Progress,
-    line: &[u8],
-    colon: usize,
-    shows_all: bool,
-) -> io::Result<Progress> {
-    let equals = judging::place_of(line, colon, b'=');
-    let call = words::part(line, std::num::wrapping_add_usize(colon, 2), equals);
-    let should = words::part(line, words::behind(equals, line.len()), line.len());
-    let text = calls::make(day, call);
-    let bytes = text.bytes;
-    let came = words::part(&bytes, 0, text.count);
-    let after = judging::with_call(progress, came, should);
-    if shows_all {
-        show(out, words::part(line, 0, colon), came, should)?;
-        return Ok(after);
-    }
-    if after.different != progress.different {
-        show(out, words::part(line, 0, colon), came, should)?;
-    }
-    Ok(after)
 }
 
-// One line: a call, or a heading.
-fn run_line<W: Write>(
-    out: &mut W,
-    day: &mut [u32; 320],
-    progress: Progress,
-    line: &[u8],
-    shows_all: bool,
-) -> io::Result<Progress> {
-    let colon = judging::place_of(line, 0, b':');
-    if colon < line.len() {
-        return run_call(out, day, progress, line, colon, shows_all);
-    }
-    if shows_all {
-        text(out, line)?;
-        text(out, b"\n")?;
-    }
-    Ok(progress)
-}
-
-// The line that begins at a place.
-fn line_at(held: &[u8], from: usize, end: usize) -> Line
-    ensures { result.end ≡ end }
-{
-    Line {
-        from,
-        to: judging::place_of(words::part(held, 0, end), from, b'\n'),
-        end,
-    }
-}
-
-// The line behind another. The buffer is filled again where less than a line is left.
-fn line_behind<R: Read>(input: &mut R, held: &mut [u8], line: Line) -> io::Result<Line>
-    requires { line.end ≤ length held.old }
-    ensures end_in_bounds { IfOk result (λ r. r.end ≤ length held.new) }
-    ensures whole { length held.new ≡ length held.old }
-{
-    let end = line.end;
-    let from = words::behind(line.to, end);
-    if end - from < LONGEST_LINE {
-        let filled = stream::refill(input, held, from, end)?;
-        return Ok(line_at(held, 0, filled));
-    }
-    Ok(line_at(held, from, end))
-}
-
-// Runs every line of the input, read through a buffer.
-fn run_lines<R: Read, W: Write>(
-    input: &mut R,
-    out: &mut W,
-    held: &mut [u8],
-    day: &mut [u32; 320],
-    shows_all: bool,
-) -> io::Result<Progress> {
-    let mut progress = Progress {
-        calls: 0,
-        different: 0,
-    };
-    let mut line = Line {
-        from: 0,
-        to: 0,
-        end: 0,
-    };
-    let mut lines = 0;
-    while lines < MOST_LINES {
-        let next = line_behind(input, held, line)?;
-        line = next;
-        if line.from == line.end {
-            break;
+impl<'a, W: Write> Script<'a, W> {
+    // Writes the label of a call, what came, and what should come.
+    fn show(&mut self, label: &[u8], came: &[u8], should: &[u8]) -> io::Result<()> {
+        for part in [label, b":", came, b", should be", should, b"\n"] {
+            self.out.write_all(part)?;
         }
-        let after = run_line(
-            out,
-            day,
-            progress,
-            words::part(held, line.from, line.to),
-            shows_all,
-        )?;
-        progress = after;
-        lines += 1;
+        Ok(())
     }
-    Ok(progress)
-}
 
-fn show_counts<W: Write>(out: &mut W, calls: u32, different: u32) -> io::Result<()> {
-    writeln!(out, "{calls} calls, {different} different")
+    // Makes the call of a line, which stands behind the colon, and counts it. Writes it where its answer is not right, or where every call is shown.
+    fn run_call(&mut self, label: &[u8], behind: &[u8]) -> io::Result<()> {
+        let equals = judging::place_of(behind, 0, b'=');
+        let call = behind.get(1..equals).unwrap_or(&[]);
+        let should = behind.get(equals + 1..).unwrap_or(&[]);
+        let text = calls::make(&mut self.day, call);
+        let came = text.as_bytes();
+        let before = self.progress;
+        self.progress = judging::with_call(before, came, should);
+        if self.shows_all || self.progress.different != before.different {
+            self.show(label, came, should)?;
+        }
+        Ok(())
+    }
+
+    // One line: a call, or a heading.
+    fn run_line(&mut self, line: &[u8]) -> io::Result<()> {
+        let colon = judging::place_of(line, 0, b':');
+        if colon < line.len() {
+            return self.run_call(&line[..colon], &line[colon + 1..]);
+        }
+        if self.shows_all {
+            self.out.write_all(line)?;
+            self.out.write_all(b"\n")?;
+        }
+        Ok(())
+    }
+
+    // Runs every line of the input, read through a buffer.
+    fn run_lines<R: Read>(&mut self, input: &mut R, held: &mut [u8]) -> io::Result<()> {
+        let mut at = held.len();
+        let mut end = held.len();
+        for _ in 0..MOST_LINES {
+            let rest = stream::hold_enough(input, held, at, end, LONGEST_LINE)?;
+            if rest.at == rest.end {
+                break;
+            }
+            let left = &held[rest.at..rest.end];
+            let length = judging::place_of(left, 0, b'\n');
+            self.run_line(&left[..length])?;
+            at = rest.at + length + 1;
+            end = rest.end;
+        }
+        Ok(())
+    }
 }
 
 // Runs the script on the input. Writes every call, or those alone whose answer is not right, and last the number of calls and of differences.
 pub fn run<R: Read, W: Write>(input: &mut R, out: &mut W, shows_all: bool) -> io::Result<()> {
     let mut held = [0u8; 65536];
-    let mut day = [0u32; 320];
-    let progress = run_lines(input, out, &mut held, &mut day, shows_all)?;
-    show_counts(out, progress.calls, progress.different)
+    let mut script = Script {
+        out,
+        shows_all,
+        day: [0u32; 320],
+        progress: Progress {
+            calls: 0,
+            different: 0,
+        },
+    };
+    script.run_lines(input, &mut held)?;
+    let progress = script.progress;
+    writeln!(
+        out,
+        "{} calls, {} different",
+        progress.calls, progress.different
+    )
 }

@@ -1,137 +1,113 @@
 // The text of an answer: words, each behind a space.
-use crate::words;
+use crate::numbers;
+use arrayvec::ArrayVec;
+use std::fmt;
+use std::fmt::Display;
+use std::io::Write;
 
-// Some text: the bytes up to the count.
-#[derive(Clone, Copy)]
+// Some text. What does not fit is left out.
+#[derive(Drop)]
 pub struct Text {
-    pub bytes: [u8; 128],
-    pub count: usize,
+    bytes: ArrayVec<u8, 128>,
 }
 
-pub fn nothing() -> Text {
-    Text {
-        bytes: [0u8; 128],
-        count: 0,
+impl Text {
+    pub fn new() -> Text {
+        Text {
+            bytes: ArrayVec::new(),
+        }
     }
-}
 
-// The text with one byte more, while there is room.
-fn with_byte(text: Text, byte: u8) -> Text {
-    let mut bytes = text.bytes;
-    let count = text.count;
-    if count < 128 {
-        bytes[count] = byte;
-        return Text {
-            bytes,
-            count: count + 1,
-        };
+    // The text with a word more.
+    pub fn with<D: Display + Drop>(mut self, word: D) -> Text {
+        let _fits = write!(self.bytes, " {word}");
+        self
     }
-    text
-}
 
-// The text with some bytes more.
-pub fn with_bytes(text: Text, bytes: &[u8]) -> Text {
-    let mut now = text;
-    let mut i = 0;
-    while i < bytes.len() {
-        let next = with_byte(now, words::byte_at(bytes, i));
-        now = next;
-        i += 1;
+    pub fn as_bytes(&self) -> &[u8] {
+        self.bytes.as_slice()
     }
-    now
-}
-
-fn with_digits(text: Text, n: u64) -> Text {
-    let mut digits = [0u8; 20];
-    let count = decimal::put_digits(n, &mut digits);
-    with_bytes(text, &digits[..count])
-}
-
-pub fn with_number(text: Text, n: u64) -> Text {
-    with_digits(with_byte(text, b' '), n)
-}
-
-pub fn with_count(text: Text, n: u32) -> Text {
-    with_number(text, n as u64)
-}
-
-// Lmax, or '-' for none.
-pub fn with_lmax(text: Text, lmax: u32) -> Text {
-    if lmax == words::NO_LMAX {
-        return with_bytes(text, b" -");
-    }
-    with_count(text, lmax)
 }
 
 // 'A', or 'R' and the number of the refusal.
-pub fn with_answer(text: Text, answer: u8) -> Text {
-    if answer == 0 {
-        return with_bytes(text, b" A");
-    }
-    with_number(with_bytes(text, b" R"), answer as u64)
-}
+#[derive(Clone, Copy)]
+pub struct Answer(pub u8);
 
-// What a verdict names.
-pub fn with_finding(text: Text, finding: u8) -> Text {
-    match finding {
-        0 => with_bytes(text, b" within"),
-        1 => with_bytes(text, b" over level"),
-        2 => with_bytes(text, b" over maximum"),
-        3 => with_bytes(text, b" both"),
-        _ => with_bytes(text, b" no limit"),
+impl Display for Answer {
+    fn fmt<W: fmt::Write>(&self, f: &mut fmt::Formatter<W>) -> fmt::Result {
+        match self.0 {
+            0 => write!(f, "A"),
+            refusal => write!(f, "R {refusal}"),
+        }
     }
 }
 
-pub fn with_signed(text: Text, n: i32) -> Text {
-    let size = quantity::size_of(n) as u64;
-    if n < 0 {
-        return with_digits(with_bytes(text, b" -"), size);
+// Lmax, or '-' for none.
+#[derive(Clone, Copy)]
+pub struct Lmax(pub u32);
+
+impl Display for Lmax {
+    fn fmt<W: fmt::Write>(&self, f: &mut fmt::Formatter<W>) -> fmt::Result {
+        match self.0 {
+            numbers::NO_LMAX => write!(f, "-"),
+            lmax => write!(f, "{lmax}"),
+        }
     }
-    with_number(text, size)
 }
 
 // A level, or '-' for below scale.
-pub fn with_level(text: Text, level: i32) -> Text {
-    if level == quantity::signed_of(words::NONE) {
-        return with_bytes(text, b" -");
+#[derive(Clone, Copy)]
+pub struct Level(pub i32);
+
+impl Display for Level {
+    fn fmt<W: fmt::Write>(&self, f: &mut fmt::Formatter<W>) -> fmt::Result {
+        match self.0 {
+            i32::MIN => write!(f, "-"),
+            level => write!(f, "{level}"),
+        }
     }
-    with_signed(text, level)
 }
 
 // A margin; the largest number stands for none.
-pub fn with_margin(text: Text, margin: i32) -> Text {
-    if margin == 2147483647 {
-        return with_bytes(text, b" none");
+#[derive(Clone, Copy)]
+pub struct Margin(pub i32);
+
+impl Display for Margin {
+    fn fmt<W: fmt::Write>(&self, f: &mut fmt::Formatter<W>) -> fmt::Result {
+        match self.0 {
+            i32::MAX => write!(f, "none"),
+            margin => write!(f, "{margin}"),
+        }
     }
-    with_signed(text, margin)
 }
 
-// The first of sixteen hexadecimal digits counts so much.
-const FIRST_DIGIT: u64 = 0x1000_0000_0000_0000;
+// What a verdict names, by its number in C.
+#[derive(Clone, Copy)]
+pub struct Finding(pub u8);
 
-// The digit of a number below 16.
-fn hexadecimal_digit(n: u64) -> u8 {
-    words::byte_at(b"0123456789abcdef", n as usize)
-}
-
-// A number in sixteen hexadecimal digits.
-fn with_hexadecimal(text: Text, n: u64) -> Text {
-    let mut now = with_byte(text, b' ');
-    let mut left = n;
-    let mut i = 0usize;
-    while i < 16 {
-        let next = with_byte(now, hexadecimal_digit(left / FIRST_DIGIT));
-        now = next;
-        left = left % FIRST_DIGIT * 16;
-        i += 1;
+impl Display for Finding {
+    fn fmt<W: fmt::Write>(&self, f: &mut fmt::Formatter<W>) -> fmt::Result {
+        match self.0 {
+            0 => write!(f, "within"),
+            1 => write!(f, "over level"),
+            2 => write!(f, "over maximum"),
+            3 => write!(f, "both"),
+            _ => write!(f, "no limit"),
+        }
     }
-    now
 }
 
 // The bits of an f64, or 'NaN', whose bits are left free.
-pub fn with_bits(text: Text, x: f64) -> Text {
-    if x == x {
-        return with_hexadecimal(text, f64::to_bits(x));
+#[derive(Clone, Copy)]
+pub struct Bits(pub f64);
+
+impl Display for Bits {
+    fn fmt<W: fmt::Write>(&self, f: &mut fmt::Formatter<W>) -> fmt::Result {
+        let x = self.0;
+        if x.is_nan() {
+            return write!(f, "NaN");
+        }
+        let bits = x.to_bits();
+        write!(f, "{bits:016x}")
     }
-    with_bytes(text, b" NaN")
 }

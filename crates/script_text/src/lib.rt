@@ -3,4 +3,5 @@
 
 pub mod answers;
 pub mod bits;
+pub mod numbers;
 pub mod words;

@@ -1,14 +1,13 @@
 -- Document 02, W-207: the correction for points behind the start of roll, at an angle θ in degrees (source document 000, formulas B.14 and B.15), and refusal 22.
-use Rattle.std.specs.Prelude.{not, cond, List, [], ◌∷◌, T, Float}
+use Rattle.std.specs.Prelude.{not, cond, List, [], ◌∷◌, T, Float, Result}
 use Rattle.std.specs.Float.Ieee.{lt, le}
 use Rattle.std.specs.Float.Ieee.Scale.{finite}
-use Rattle.quantity.specs.Answers.{refusal_number}
+use Rattle.quantity.specs.Answers.{outcome_of}
 use Rattle.quantity.specs.Rules.{Rule, first_of, Outcome, refused, given, outcome}
+use Rattle.quantity.specs.declared.Refusal.{Refusal}
 use Rattle.floats.specs.Arithmetic.{float_of, decimal, ◌+ᶠ◌, ◌-ᶠ◌, ◌*ᶠ◌, within}
 use Rattle.start_of_roll.specs.declared.Correction as declared
 use Rattle.start_of_roll.specs.declared.Correction.TheVariants.{InFront, Beside, Behind}
-use Rattle.start_of_roll.specs.declared.CorrectionAnswer.{CorrectionAnswer}
-use Rattle.start_of_roll.specs.declared.CorrectionAnswer.TheVariants as answers
 
 -- in front 'with no number'; beside and behind, 'each with its own correction in dB'
 pub data Correction : Type 0 where
@@ -49,9 +48,8 @@ correction_reading InFront = in_front
 correction_reading (Beside correction) = beside correction
 correction_reading (Behind correction) = behind correction
 
-abbrev pub answer_reading : CorrectionAnswer → Outcome Correction
-answer_reading (answers.Given correction) = given (correction_reading correction)
-answer_reading (answers.Refused refusal) = refused (refusal_number refusal)
+abbrev pub answer_reading : Result declared.Correction Refusal → Outcome Correction
+answer_reading = outcome_of correction_reading
 
 -- a correction that is given is finite, so no NaN. The account of IEEE 754 has a single NaN, so that an equation settles the bits of every other value
 abbrev pub IsFinite : Outcome Correction → Type 0

@@ -14,13 +14,6 @@ pub enum Correction {
     Behind(f64),
 }
 
-// The correction, or refusal 22.
-#[derive(Clone, Copy)]
-pub enum CorrectionAnswer {
-    Given(Correction),
-    Refused(Refusal),
-}
-
 // B.14, each operation rounded once.
 fn beside_at(angle: f64) -> f64
     ensures { result ≡ beside_at angle }
@@ -28,7 +21,7 @@ fn beside_at(angle: f64) -> f64
     51.44 - 1.553 * angle + 0.015147 * (angle * angle) - 0.000047173 * (angle * angle * angle)
 }
 
-// B.15, each operation rounded once.
+// B.15, each operation rounded once; its signs are not those of B.14, so that one formula for both would turn some.
 fn behind_at(angle: f64) -> f64
     ensures { result ≡ behind_at angle }
 {
@@ -36,18 +29,18 @@ fn behind_at(angle: f64) -> f64
 }
 
 // The correction at an angle in degrees, between the line from the start of roll to the point and the runway.
-pub fn correction_at_angle(angle: f64) -> CorrectionAnswer
+pub fn correction_at_angle(angle: f64) -> Result<Correction, Refusal>
     ensures result_value { answer_reading result ≡ correction_at_angle angle }
     ensures finite { IsFinite (answer_reading result) }
 {
     if !floats::is_within(0.0, 180.0, angle) {
-        return CorrectionAnswer::Refused(Refusal::AngleOutside);
+        return Err(Refusal::AngleOutside);
     }
     if angle < 90.0 {
-        return CorrectionAnswer::Given(Correction::InFront);
+        return Ok(Correction::InFront);
     }
     if angle <= 148.4 {
-        return CorrectionAnswer::Given(Correction::Beside(beside_at(angle)));
+        return Ok(Correction::Beside(beside_at(angle)));
     }
-    CorrectionAnswer::Given(Correction::Behind(behind_at(angle)))
+    Ok(Correction::Behind(behind_at(angle)))
 }

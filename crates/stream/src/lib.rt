@@ -8,29 +8,6 @@ ghost use Rattle.stream.specs.Part.{part, SameRun};
 use std::io;
 use std::io::Read;
 
-// The lesser of two numbers.
-fn least(a: usize, b: usize) -> usize
-    ensures { result ≡ min a b }
-{
-    if a < b { a } else { b }
-}
-
-// Moves the bytes from a place up to another to the beginning, and gives their number.
-fn move_to_front(held: &mut [u8], from: usize, to: usize) -> usize
-    requires { (from ≤ to) × (to ≤ length held.old) }
-    ensures held_after { take result held.new ≡ part held.old from to }
-    ensures size { result ≡ to - from }
-    ensures whole { length held.new ≡ length held.old }
-{
-    let count = to - from;
-    let mut i = 0;
-    while i < count {
-        held[i] = held[from + i];
-        i += 1;
-    }
-    count
-}
-
 // One read into what is free behind a place.
 fn read_behind<R: Read>(input: &mut R, held: &mut [u8], at: usize) -> io::Result<usize>
     requires { at < length held.old }
@@ -53,6 +30,7 @@ fn fill_from<R: Read>(input: &mut R, held: &mut [u8], from: usize) -> io::Result
     ensures bytes { IfOk result (λ n. Consumes (R.remaining input.old) (R.remaining input.new) (drop from (take n held.new))) }
     ensures end { IfOk result (λ n. n < length held.new → IsAtEnd (R.remaining input.new)) }
 {
+    // Each turn goes on by what one read gave, which no iterator knows.
     let mut at = from;
     while at < held.len() {
         let count = read_behind(input, held, at)?;
@@ -84,10 +62,10 @@ pub fn refill<R: Read>(input: &mut R, held: &mut [u8], from: usize, to: usize) -
     ensures in_order { IfOk result (λ n. SameRun (part held.old from to) (R.remaining input.old) (take n held.new) (R.remaining input.new)) }
     ensures end { IfOk result (λ n. n < length held.new → IsAtEnd (R.remaining input.new)) }
 {
-    let end = least(to, held.len());
-    let start = least(from, end);
-    let kept = move_to_front(held, start, end);
-    fill_from(input, held, kept)
+    let end = to.min(held.len());
+    let start = from.min(end);
+    held.copy_within(start..end, 0);
+    fill_from(input, held, end - start)
 }
 
 // The bytes of a buffer that are not used up yet, from a place up to another, and whether the input ends with them.
@@ -95,6 +73,7 @@ pub fn refill<R: Read>(input: &mut R, held: &mut [u8], from: usize, to: usize) -
 pub struct Rest {
     pub at: usize,
     pub end: usize,
+    // Both places hold either way, and a step is told the end as a flag.
     pub ended: bool,
 }
 
@@ -119,20 +98,13 @@ pub fn hold_enough<R: Read>(
     ensures input_ended { IfOk result (λ r. (end < length held.old → IsAtEnd (R.remaining input.old))
         → r.end < length held.new → IsAtEnd (R.remaining input.new)) }
 {
-    let last = least(end, held.len());
-    let first = least(at, last);
-    if last < held.len() {
+    let last = end.min(held.len());
+    let first = at.min(last);
+    if last < held.len() || need <= last - first {
         return Ok(Rest {
             at: first,
             end: last,
-            ended: true,
-        });
-    }
-    if need <= last - first {
-        return Ok(Rest {
-            at: first,
-            end: last,
-            ended: false,
+            ended: last < held.len(),
         });
     }
     let filled = refill(input, held, first, last)?;

@@ -2,7 +2,7 @@
 use Prim.Native.Nat.{ℕ, ◌+◌, ◌-◌, ◌<◌}
 use native.Mathlib.Omega.{arith}
 use native.Mathlib.Numerals.{add-one}
-use mathlib.Core.Path.{◌≡◌, refl}
+use mathlib.Core.Path.{◌≡◌, refl, ap, ◌∙◌}
 use mathlib.Core.Bool.{true, false}
 use mathlib.Core.List.{List}
 use lib.Ieee.{Float}
@@ -33,3 +33,11 @@ module _ (rows : List Row) (count : ℕ) (F : Float) where
 
   pub inside : fit rows count ≡ true → spans rows (count - 1) F ≡ true → given (level_from rows (count - 1) F (lower_place rows F (count - 1))) ≡ level_at_thrust rows count F
   inside f s = rw (← passes (thrust_rules rows count F) (rw f, (rw s, tt)))
+
+  -- the level from the lower row on is given
+  pub at_last : fit rows count ≡ true → spans rows (count - 1) F ≡ true → lower_place rows F (count - 1) ≡ count - 1 → given (row_at rows (count - 1)).level ≡ level_at_thrust rows count F
+  at_last f s e = ap given (from_last rows (count - 1) F (lower_place rows F (count - 1)) e) ∙ inside f s
+
+  pub at_lower : (k : ℕ) → fit rows count ≡ true → spans rows (count - 1) F ≡ true → k ≡ lower_place rows F (count - 1) → (k ≡ count - 1 → ⊥)
+      → given (level_between (row_at rows k) (row_at rows (k + 1)) F) ≡ level_at_thrust rows count F
+  at_lower k f s p e = ap given (from_lower rows (count - 1) F k e ∙ ap (level_from rows (count - 1) F) p) ∙ inside f s

@@ -26,3 +26,7 @@ floats_each (row ∷ rows) (u ∷ us) s (suc k) h = floats_each rows us s.1 k (l
 
 pub are_floats : (rows : List Row) (vs : List Val) → Is (Array the_row 32) rows vs → (count : ℕ) → count ≤ 32 → AreFloats rows count
 are_floats rows vs p count h k l = floats_each rows p.0 p.1.1 k (omega (arith, p.1.0.1))
+
+-- and that there are 32 of them
+pub room : (rows : List Row) (vs : List Val) → Is (Array the_row 32) rows vs → (count : ℕ) → count ≤ 32 → count ≤ length rows
+room rows vs p count h = omega (arith, p.1.0.1)

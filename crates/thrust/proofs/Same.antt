@@ -5,6 +5,8 @@ use mathlib.Core.Path.{◌≡◌, refl, sym, ap, ◌∙◌}
 use mathlib.Core.Bool.{Bool, true, false, cond}
 use mathlib.Core.List.{List}
 use lib.Dec.{eqb}
+use lib.ListN.{length, take}
+use Rattle.std.proofs.lemmas.List.{length-take-le, get_or-take}
 use lib.Ieee.{Float}
 use borrow.Author.Tests.{eqb-false}
 use Rattle.quantity.specs.Rules.{Rule, first_of, Outcome, outcome}
@@ -62,6 +64,11 @@ module _ (rows others : List Row) (F : Float) where
 
 pub first_rows_alone : FirstRowsAlone
 first_rows_alone rows others count F = same_level rows others F count
+
+-- the first rows by themselves
+pub by_first_rows : (rows : List Row) (count : ℕ) (F : Float) → count ≤ length rows → level_at_thrust (take count rows) (length (take count rows)) F ≡ level_at_thrust rows count F
+by_first_rows rows count F h =
+    rw (length-take-le count rows h) (first_rows_alone (take count rows) rows count F (λ k l. get_or-take count rows k _ l))
 
 -- what is exact at the rows of one is exact at those of the other
 pub exact_alike : (rows others : List Row) (count : ℕ) (F : Float) {answer : Outcome Float} → Alike rows others count → ExactAtRows rows count F answer → ExactAtRows others count F answer

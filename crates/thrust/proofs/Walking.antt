@@ -1,38 +1,29 @@
 -- One place at a time, from the last one down.
 use Prim.Native.Nat.{ℕ, zero, suc, ◌-◌, ◌≤◌, ◌<◌}
-use mathlib.Core.Path.{◌≡◌, refl, ap, ◌∙◌}
+use mathlib.Core.Path.{◌≡◌, refl, sym, ap, ◌∙◌}
 use mathlib.Core.Bool.{Bool, true, false, cond, ◌&&◌}
-use mathlib.Core.List.{List}
+use mathlib.Core.List.{List, [], ◌∷◌}
 use mathlib.Core.Logic.{inl, inr}
 use native.Mathlib.Nat.{eq-or-lt_of_le, le_of_suc-le-suc}
 use native.Mathlib.Omega.{arith}
-use native.Mathlib.Numerals.{sub-one}
+use native.Mathlib.Numerals.{add-one, sub-one}
+use lib.ListN.{length}
+use Rattle.std.proofs.lemmas.Bool.{true≢false}
+use Rattle.std.specs.List.{list_all, IsAllAdjacentAnswer}
 use lib.Ieee.{Float, le, lt}
-use Rattle.quantity.proofs.Tests.{both}
+use Rattle.quantity.proofs.Tests.{test, both}
 use Rattle.thrust.specs.Rows.{row_at, every, rises, lower_place}
 use Rattle.thrust.specs.Laws.{LastAtMost, LowerIsLast}
 use Rattle.thrust.specs.declared.Row.{Row}
 
+swap : (a b c : Bool) → (a && (b && c)) ≡ (b && (a && c))
+swap true b c = refl
+swap false true c = refl
+swap false false c = refl
+
 -- ---- a test at each place
 
 module _ (p : ℕ → Bool) where
-  pub step : (n : ℕ) → 0 < n → every p n ≡ p (n - 1) && every p (n - 1)
-  unfolding every
-  step zero h = absurd (omega arith)
-  step (suc n) h = rw (sub-one (suc n))
-
-  -- a place that fails decides, one that passes is passed over
-  pub fails : (n : ℕ) → 0 < n → p (n - 1) ≡ false → every p n ≡ false
-  fails n h e = rw (step n h, e)
-
-  pub passes : (n : ℕ) → 0 < n → p (n - 1) ≡ true → every p n ≡ every p (n - 1)
-  passes n h e = rw (step n h, e)
-
-  pub none_left : (n : ℕ) → n ≤ 0 → every p n ≡ true
-  unfolding every
-  none_left zero h = refl
-  none_left (suc n) h = absurd (omega arith)
-
   pub every_at : (n : ℕ) → every p n ≡ true → (k : ℕ) → k < n → p k ≡ true
   unfolding every
   every_at zero h k l = absurd (omega arith)
@@ -42,22 +33,29 @@ module _ (p : ℕ → Bool) where
         | inr g ↦ every_at n (both (p n) (every p n) h).1 k g
       ]
 
-both_parts : (a b c d : Bool) → (a && b) && (c && d) ≡ (a && c) && (b && d)
-both_parts true true c d = refl
-both_parts true false true d = refl
-both_parts true false false d = refl
-both_parts false b c d = refl
+  pub every_shown : (n : ℕ) → ((k : ℕ) → k < n → p k ≡ true) → every p n ≡ true
+  unfolding every
+  every_shown zero h = refl
+  every_shown (suc n) h = rw (h n (omega arith)) (every_shown n (λ k l. h k (omega arith)))
 
--- two tests in one walk
-pub every_both : (p q : ℕ → Bool) (n : ℕ) → every (λ k. p k && q k) n ≡ every p n && every q n
+  pub every_broken : (n k : ℕ) → k < n → p k ≡ false → every p n ≡ false
+  every_broken n k l e = test (every p n) (λ t. absurd (true≢false (sym (every_at n t k l) ∙ e))) (λ f. f)
+
+  -- from the front
+  every_front : (n : ℕ) → every p (suc n) ≡ (p 0 && every (λ k. p (suc k)) n)
+  unfolding every
+  every_front zero = refl
+  every_front (suc n) = rw (every_front n) (swap (p (suc n)) (p 0) (every (λ k. p (suc k)) n))
+
+-- a test of each row, and of each row and the next
+pub every_row : (q : Row → Bool) (rows : List Row) → list_all q rows ≡ every (λ k. q (row_at rows k)) (length rows)
 unfolding every
-every_both p q zero = refl
-every_both p q (suc n) = ap (λ (b : Bool). (p n && q n) && b) (every_both p q n) ∙ both_parts (p n) (q n) (every p n) (every q n)
+every_row q [] = refl
+every_row q (row ∷ rows) = ap (λ (b : Bool). q row && b) (every_row q rows) ∙ sym (every_front (λ k. q (row_at (row ∷ rows) k)) (length rows))
 
--- whether the thrust before place n is below that of n
-pub rises_to : (rows : List Row) (n : ℕ) → 0 < n → rises rows (n - 1) ≡ lt (row_at rows (n - 1)).thrust (row_at rows n).thrust
-rises_to rows zero h = absurd (omega arith)
-rises_to rows (suc n) h = rw (sub-one (suc n))
+pub every_next : (rows : List Row) (r : Bool) → IsAllAdjacentAnswer (λ x y b. b ≡ lt x.thrust y.thrust) rows r → r ≡ every (rises rows) (length rows - 1)
+every_next rows true h = sym (every_shown (rises rows) (length rows - 1) (λ k l. sym (rw add-one at (h k (row_at [] 0) (omega arith)))))
+every_next rows false h = sym (every_broken (rises rows) (length rows - 1) h.0 (omega (arith, h.1)) (sym (rw add-one at (h.2 (row_at [] 0)))))
 
 -- ---- the lower row
 
@@ -72,10 +70,21 @@ module _ (rows : List Row) (F : Float) where
   lower_below zero h e = absurd (omega arith)
   lower_below (suc n) h e = rw (e, sub-one (suc n))
 
-  pub lower_first : (n : ℕ) → n ≤ 0 → lower_place rows F n ≡ 0
+-- it is found from the end: it passes, and none behind it does; or none does
+module _ (rows : List Row) (F : Float) where
+  pub lower_found : (n i : ℕ) → i ≤ n → le (row_at rows i).thrust F ≡ true → ((k : ℕ) → i < k → k ≤ n → le (row_at rows k).thrust F ≡ false) → lower_place rows F n ≡ i
   unfolding lower_place
-  lower_first zero h = refl
-  lower_first (suc n) h = absurd (omega arith)
+  lower_found zero i h e later = omega arith
+  lower_found (suc n) i h e later =
+      elim (eq-or-lt_of_le h) [
+        | inl q ↦ rw q at (lower_here rows F i e) ∙ omega arith
+        | inr g ↦ rw (later (suc n) g (omega arith)) (lower_found n i (le_of_suc-le-suc g) e (λ k a b. later k a (omega arith)))
+      ]
+
+  pub lower_nowhere : (n : ℕ) → ((k : ℕ) → k ≤ n → le (row_at rows k).thrust F ≡ false) → lower_place rows F n ≡ 0
+  unfolding lower_place
+  lower_nowhere zero h = refl
+  lower_nowhere (suc n) h = rw (h (suc n) (omega arith)) (lower_nowhere n (λ k a. h k (omega arith)))
 
 pub lower_inside : (rows : List Row) (F : Float) (n : ℕ) → lower_place rows F n ≤ n
 unfolding lower_place

@@ -1,13 +1,12 @@
 -- Document 02, W-206: the level at a thrust F between two rows (source document 000, formula B.3), and refusals 20 and 21.
-use Rattle.std.specs.Prelude.{ℕ, zero, suc, ◌-◌, Bool, true, not, cond, ◌&&◌, List, [], ◌∷◌, leb, eqb, get_or, Float}
+use Rattle.std.specs.Prelude.{ℕ, zero, suc, ◌-◌, Bool, true, not, cond, ◌&&◌, List, [], ◌∷◌, leb, eqb, get_or, Float, Result}
 use Rattle.std.specs.Float.{nan}
 use Rattle.std.specs.Float.Ieee.{lt, le}
-use Rattle.quantity.specs.Answers.{refusal_number}
-use Rattle.quantity.specs.Rules.{Rule, first_of, Outcome, refused, given, outcome}
+use Rattle.quantity.specs.Answers.{outcome_of}
+use Rattle.quantity.specs.Rules.{Rule, first_of, Outcome, outcome}
+use Rattle.quantity.specs.declared.Refusal.{Refusal}
 use Rattle.floats.specs.Arithmetic.{float_of, ◌+ᶠ◌, ◌-ᶠ◌, ◌*ᶠ◌, ◌/ᶠ◌, within}
 use Rattle.thrust.specs.declared.Row.{Row}
-use Rattle.thrust.specs.declared.ThrustAnswer.{ThrustAnswer}
-use Rattle.thrust.specs.declared.ThrustAnswer.TheVariants as answers
 
 -- the row at a place, counted from 0
 abbrev pub row_at : List Row → ℕ → Row
@@ -60,6 +59,5 @@ level_at_thrust rows count F =
     let last = count - 1 in outcome (first_of (thrust_rules rows count F)) (level_from rows last F (lower_place rows F last))
 
 -- the level, or the number of a refusal
-abbrev pub thrust_reading : ThrustAnswer → Outcome Float
-thrust_reading (answers.At level) = given level
-thrust_reading (answers.Refused refusal) = refused (refusal_number refusal)
+abbrev pub thrust_reading : Result Float Refusal → Outcome Float
+thrust_reading = outcome_of (λ level. level)

@@ -3,4 +3,4 @@ use Rattle.c_interface.proofs.Written.{energy_by_limbs}
 use Rattle.c_interface.proofs.moatburdock_hour_energy.Goals as goal
 
 pub returns : goal.returns
-returns c = rw (c.half_of.ensures, c.half_of-2.ensures, c.hour_energy-sum.ensures, c.decode.ensures) (energy_by_limbs _)
+returns c = rw (c.joined.ensures, c.joined-2.ensures, c.hour_energy-sum.ensures, c.decode.ensures) (energy_by_limbs _)

@@ -10,5 +10,5 @@ returns-then-thrusts-gt-MOST_ROWS c =
 pub returns : goal.returns
 returns c =
     let e = c.level_at_thrust.ensures in
-    let a = by_array c.args.thrusts.now c.args.levels.now c.args.thrust c.rows_of-rows.result c.if-levels-thrusts.false c.rows_of-rows.ensures (e.result_value, (e.exact, e.number)) in
+    let a = by_array c.args.thrusts.now c.args.levels.now c.args.thrust c.rows_of.result c.if-levels-thrusts.false c.rows_of.ensures (e.result_value, (e.exact, e.number)) in
     record { result_value = a.0; exact = a.1.0; number = a.1.1 }

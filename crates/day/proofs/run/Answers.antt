@@ -11,22 +11,22 @@ use Rattle.day.proofs.run.Goals as goal
 
 pub loop-turn-smaller : goal.loop-turn-smaller
 loop-turn-smaller g c =
-    let p = c.in_ok-next.ensures.turned in
-    let r = c.in_ok-next.next in
+    let p = c.in_ok-turn.ensures.turned in
+    let r = c.in_ok-turn.turn in
     let held = c.take_turn.new.held in
     let window = part held r.from r.end in
     let long = part_long held r.from r.end p.inside.1 in
     rw (ap (λ (n : Next). steps_left n.reader) p.step)
     (nearer_law c.loop-turn.turn.reader window (ltb r.end (length held))
     (λ f. omega (arith, long, p.enough f))
-    (sym c.is_over.ensures ∙ c.loop-turn-test.true)
+    (sym c.is_done.ensures ∙ c.loop-turn-test.true)
     (omega (arith, ap (λ (n : Next). n.reader.count) p.step)))
 
 pub loop-turn-init : goal.loop-turn-init
 loop-turn-init g c = record {
   whole = refl;
   ended = λ h. absurd (omega arith);
-  so_far = nothing_yet (g.R.Read.remaining c.args.input.now) (g.W.Write.contents c.args.out.now) c.fresh-reader.result _ c.fresh-reader.ensures (part_none c.args.held.now (length c.args.held.now));
+  so_far = nothing_yet (g.R.Read.remaining c.args.input.now) (g.W.Write.contents c.args.out.now) c.fresh.result _ c.fresh.ensures (part_none c.args.held.now (length c.args.held.now));
 }
 
 pub loop-turn-preserved : goal.loop-turn-preserved
@@ -35,8 +35,8 @@ loop-turn-preserved g c =
     let wrote = g.W.Write.contents in
     let before = c.loop-turn.invariant in
     let last = c.loop-turn.turn in
-    let e = c.in_ok-next.ensures in
-    let r = c.in_ok-next.next in
+    let e = c.in_ok-turn.ensures in
+    let r = c.in_ok-turn.turn in
     let held = c.take_turn.new.held in
     record {
       whole = e.whole ∙ before.whole;
@@ -53,4 +53,4 @@ returns g c =
     let wrote = g.W.Write.contents in
     let last = c.loop-turn.turn in
     all_printed (left c.args.input.now) (left c.loop-turn.input) (wrote c.args.out.now) (wrote c.loop-turn.out) last.reader (unused last c.loop-turn.held)
-    c.loop-turn.invariant.so_far (sym c.is_over.ensures ∙ c.loop-turn-test.false)
+    c.loop-turn.invariant.so_far (sym c.is_done.ensures ∙ c.loop-turn-test.false)

@@ -25,6 +25,6 @@ returns-clause-turned g c =
       kept = e.held_after;
       inside = e.size;
       step = rw (used, ← e.ended) c.step_with-step.ensures.result_value;
-      enough = λ f. omega (arith, e.enough (e.ended ∙ f), e.whole, c.longest_need.ensures, longest_law c.args.last.reader, c.requires.1);
+      enough = λ f. omega (arith, e.enough (e.ended ∙ f), e.whole, c.longest_need-need.ensures, longest_law c.args.last.reader, c.requires);
       used = (omega arith, inside g (goal.at.returns-clause-turned g c).After-step_with-step);
     }

@@ -1,9 +1,6 @@
 -- `run_cases`: no more cases differ than were run.
-use Rattle.std.proofs.Common.{◌≤◌, ◌-◌}
+use Rattle.std.proofs.Common.{◌≤◌}
 use Rattle.file_cases.proofs.run_cases.Given as goal
 
-abbrev pub invariant-loop-cases : goal.invariant-loop-cases
-invariant-loop-cases g l = l.different ≤ l.cases
-
-abbrev pub decreases-loop-cases : goal.decreases-loop-cases
-decreases-loop-cases g l = 10000 - l.cases
+abbrev pub invariant-loop-case : goal.invariant-loop-case
+invariant-loop-case g l = l.different ≤ l.case

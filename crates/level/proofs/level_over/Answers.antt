@@ -5,5 +5,5 @@ use Rattle.level.proofs.Answer.{divided}
 use Rattle.level.proofs.level_over.Goals as goal
 
 pub returns : goal.returns
-returns c = c.level_by_row.ensures _ c.leading_quotient-quotient.ensures.0
-    ∙ ap reading_at (divided _ _ _ c.requires.0 ∙ ap (height_of _ _) c.deepened-deep.ensures)
+returns c = c.level_of_leading.ensures _ c.leading_quotient-quotient.ensures
+    ∙ ap reading_at (divided _ _ _ c.requires.0 ∙ ap (height_of _ _) c.deepened.ensures)

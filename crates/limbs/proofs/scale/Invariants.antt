@@ -1,12 +1,9 @@
--- What the loop of `limbs::scale` keeps, and why it ends.
-use Prim.Native.Nat.{◌*◌, ◌-◌}
+-- What the loop of `limbs::scale` keeps.
+use Prim.Native.Nat.{◌*◌}
 use lib.ListN.{length, take}
 use Rattle.limbs.specs.Value.{value}
 use Rattle.limbs.proofs.Carry.{Carried}
 use Rattle.limbs.proofs.scale.Given as goal
 
-abbrev pub invariant-loop-i : goal.invariant-loop-i
-invariant-loop-i l = Carried (λ n. value (take n l.initial.a) * l.k) l.initial.a l.a l.carry l.i
-
-abbrev pub decreases-loop-i : goal.decreases-loop-i
-decreases-loop-i l = length l.initial.a - l.i
+abbrev pub invariant-loop-limb : goal.invariant-loop-limb
+invariant-loop-limb l = Carried (λ n. value (take n l.initial.a) * l.k) l.initial.a l.a l.carry l.limb-index

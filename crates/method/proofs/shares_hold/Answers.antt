@@ -1,17 +1,15 @@
--- `method::shares_hold` meets its contract.
-use mathlib.Core.Path.{sym, ◌∙◌}
-use Rattle.method.proofs.Shares.{shares_pass, shares_fail, shares_end}
+-- `method::shares_hold` meets its contract: the condition on each class.
+use borrow.Author.Rules.{rules}
+use mathlib.Core.Path.{refl, ◌∙◌}
+use Rattle.std.proofs.Common.{tests}
+use Rattle.std.proofs.lemmas.Iterator.{YieldsList-from_range}
+use Rattle.std.proofs.lemmas.Iterator.Search.{all_from_yields_List}
+use Rattle.method.specs.Method.{class_count, share_holds}
+use Rattle.method.proofs.Shares.{shares_listed}
 use Rattle.method.proofs.shares_hold.Goals as goal
 
-pub returns-then-not-share_holds : goal.returns-then-not-share_holds
-returns-then-not-share_holds c =
-    let tested = rw c.class_count.ensures at c.share_holds.ensures in
-    shares_fail c.loop-class.invariant c.loop-class-test.true (sym tested ∙ c.if-not-share_holds.true)
-
-pub loop-class-preserved : goal.loop-class-preserved
-loop-class-preserved c =
-    let tested = rw c.class_count.ensures at c.share_holds.ensures in
-    shares_pass c.loop-class.invariant c.loop-class-test.true (sym tested ∙ c.if-not-share_holds.false)
-
 pub returns : goal.returns
-returns c = shares_end c.loop-class.invariant c.loop-class-test.false
+returns c =
+    let a = c.args in
+    all_from_yields_List (λ k. share_holds a.all (class_count a.day k)) _ _ _ c.all.ensures.ran (YieldsList-from_range 0 16 16 refl refl) (λ x b q k. search (rules, tests))
+    ∙ shares_listed a.all (class_count a.day) 16

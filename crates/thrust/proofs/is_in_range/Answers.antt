@@ -1,4 +1,4 @@
--- `thrust::is_in_range` meets its contract: the code's literals are the f64 of the whole numbers, and the level decides where the thrust is within its range.
+-- `thrust::is_in_range` meets its contract: the code's literals are the f64 of the whole numbers.
 use mathlib.Core.Path.{sym, ◌∙◌}
 use lib.Ieee.{of_bits, of_int, round}
 use Rattle.thrust.proofs.is_in_range.Goals as goal
@@ -9,4 +9,4 @@ returns-then-is_within c = rw (sym c.is_within.ensures ∙ c.if-is_within.true) 
 
 pub returns-else-is_within : goal.returns-else-is_within
 unfolding of_int of_bits round
-returns-else-is_within c = rw (sym c.is_within.ensures ∙ c.if-is_within.false)
+returns-else-is_within c = c.if-is_within.false ∙ rw (sym c.is_within.ensures ∙ c.if-is_within.false)

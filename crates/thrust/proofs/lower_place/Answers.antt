@@ -1,14 +1,16 @@
--- `thrust::lower_place` meets its contract: each turn passes one place over from the end.
-use mathlib.Core.Path.{sym, ◌∙◌}
+-- `thrust::lower_place` meets its contract: the last row that passes, or the first row where none does.
 use borrow.Author.Rules.{rules}
-use Rattle.thrust.proofs.Walking.{lower_here, lower_below, lower_first}
+use mathlib.Core.Path.{◌≡◌, refl, sym, ◌∙◌}
+use Prim.Native.Nat.{ℕ, ◌-◌}
+use lib.ListN.{length}
+use Rattle.std.specs.Prelude.{Option, Some, None, unwrap_or}
+use Rattle.thrust.specs.Rows.{lower_place}
+use Rattle.thrust.proofs.Walking.{lower_found, lower_nowhere}
 use Rattle.thrust.proofs.lower_place.Goals as goal
 
-pub returns-then-row-thrust-clause-value : goal.returns-then-row-thrust-clause-value
-returns-then-row-thrust-clause-value c = sym (lower_here _ _ _ c.if-row-thrust.true) ∙ c.loop-place.invariant.1
-
-pub loop-place-preserved : goal.loop-place-preserved
-loop-place-preserved c = (search rules, sym (lower_below _ _ _ c.loop-place-test.true c.if-row-thrust.false) ∙ c.loop-place.invariant.1)
-
 pub returns-clause-value : goal.returns-clause-value
-returns-clause-value c = sym (lower_first _ _ _ c.loop-place-test.false) ∙ c.loop-place.invariant.1
+returns-clause-value c = c.unwrap_or.ensures ∙ go c.rposition.result refl
+  where
+    go : (o : Option ℕ) → c.rposition.result ≡ o → unwrap_or o 0 ≡ lower_place c.args.rows.now c.args.thrust (length c.args.rows.now - 1)
+    go (Some i) e = sym (lower_found c.args.rows.now c.args.thrust (length c.args.rows.now - 1) i (search rules) (search rules) (λ k a b. search rules))
+    go None e = sym (lower_nowhere c.args.rows.now c.args.thrust (length c.args.rows.now - 1) (λ k a. search rules))

@@ -1,2 +1,0 @@
--- The laws that the proofs of `report` share.
-pub mod Decimal

@@ -1,7 +1,0 @@
--- `runs::put_bytes` meets its contract: the bytes passed so far are put.
-use mathlib.Core.Path.{refl}
-use Rattle.runs.proofs.Putting.{put_more}
-use Rattle.runs.proofs.put_bytes.Goals as goal
-
-pub loop-i-preserved : goal.loop-i-preserved
-loop-i-preserved c = put_more c.loop-i.invariant c.requires c.loop-i-test.true refl
