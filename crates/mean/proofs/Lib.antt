@@ -1,2 +1,3 @@
 -- The laws that the proofs of `mean` share.
+pub mod Records
 pub mod Totals

@@ -79,9 +79,9 @@ fn both(daytime: Count, night: Count) -> Count
 }
 
 // The flights and the events of a class in a period. A class is a plain number, as callers and loops have it, so its bound is required of it and no type holds it.
-fn count_in(period: Period, class: usize) -> Count
+fn count_in(period: &Period, class: usize) -> Count
     requires { class < most_classes }
-    ensures { (result.flights ≡ get_or period.booked class 0) × (result.events ≡ get_or period.accepted class 0) × Few most_of_period result }
+    ensures { (result.flights ≡ get_or period.now.booked class 0) × (result.events ≡ get_or period.now.accepted class 0) × Few most_of_period result }
 {
     Count {
         flights: u32::from(period.booked[class]),
@@ -89,12 +89,12 @@ fn count_in(period: Period, class: usize) -> Count
     }
 }
 
-// The flights and the events of a class by day and night.
-fn class_count(day: Day, class: usize) -> Count
+// The flights and the events of a class by day and night. The day is lent: a copy for each class took most of a refused closing.
+fn class_count(day: &Day, class: usize) -> Count
     requires { class < most_classes }
-    ensures { result ≡ class_count day class }
+    ensures { result ≡ class_count day.now class }
 {
-    both(count_in(day.daytime, class), count_in(day.night, class))
+    both(count_in(&day.daytime, class), count_in(&day.night, class))
 }
 
 // Whether a class with flights has an accepted event.
@@ -118,7 +118,7 @@ pub fn share_holds(class: Count, all: Count) -> bool
 fn shares_hold(day: Day, all: Count) -> bool
     ensures { result ≡ shares_hold all (class_count day) most_classes }
 {
-    (0..16).all(|class| share_holds(class_count(day, class), all))
+    (0..16).all(|class| share_holds(class_count(&day, class), all))
 }
 
 // The conditions of method two.

@@ -31,6 +31,13 @@ fn is_unfit(times: &[i32], marks: &[u16]) -> bool
     MOST_ENTRIES < times.len() || marks.len() != times.len() || has_fall(times)
 }
 
+// How far apart two times are.
+fn distance(time: i32, other: i32) -> u32
+    ensures { result ≡ distance (ticks_of time) (ticks_of other) }
+{
+    time.abs_diff(other)
+}
+
 // The mark that names a place.
 fn mark_of(place: usize) -> u16
     requires { place < most_entries }
@@ -61,7 +68,7 @@ fn pair_all(
     while i < movements.len() && j < peaks.len() {
         let movement = movements[i];
         let peak = peaks[j];
-        if movement.abs_diff(peak) <= tolerance {
+        if distance(movement, peak) <= tolerance {
             movement_marks[i] = mark_of(j);
             peak_marks[j] = mark_of(i);
             count += 1;

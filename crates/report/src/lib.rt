@@ -89,7 +89,7 @@ impl Show for i32 {
         if self < 0 {
             line.put(b"-");
         }
-        self.unsigned_abs().show(line);
+        quantity::size_of(self).show(line);
     }
 }
 

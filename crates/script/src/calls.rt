@@ -3,6 +3,7 @@ use crate::{angles, campaigns, hours, pairs, thrusts};
 use script_text::answers::{Answer, Finding, Level, Lmax, Margin, Text};
 use script_text::numbers;
 use script_text::numbers::{Numbers, in_8_bits, in_16_bits};
+use script_text::words::Values;
 use std::fmt::Display;
 
 // A call has at most this many records.
@@ -65,6 +66,8 @@ fn no_end(rate: u32) -> i32 {
 
 // Opens a day in words that are 0, so that a refused opening leaves a day of no class. The flights by day are the numbers from a place on.
 fn open(day: &mut [u32; 320], opening: Opening, numbers: &Numbers, from: usize) -> Text {
+    let mut flights = Values::new();
+    flights.take_all(numbers, in_16_bits);
     *day = [0u32; 320];
     answered(c_interface::moatburdock_open_day(
         day,
@@ -72,8 +75,8 @@ fn open(day: &mut [u32; 320], opening: Opening, numbers: &Numbers, from: usize) 
         opening.first,
         opening.last,
         opening.end,
-        &numbers::all(numbers.before_slash(from), in_16_bits),
-        &numbers::all(numbers.behind_slash(), in_16_bits),
+        flights.before_slash(from),
+        flights.behind_slash(),
     ))
 }
 
@@ -118,6 +121,8 @@ fn end_for_next_day(day: &[u32; 320]) -> Text {
 // offer START CLASS WIND WET BACKGROUND TOLERANCE / SAMPLES: without a tolerance it is 0
 fn offer(day: &mut [u32; 320], numbers: &Numbers) -> Text {
     let tolerance = numbers.before_slash(5).first().copied().unwrap_or(0);
+    let mut samples = Values::new();
+    samples.take_all(numbers, in_16_bits);
     let mut exposure = 0;
     let mut lmax = 0;
     let answer = c_interface::moatburdock_offer(
@@ -128,7 +133,7 @@ fn offer(day: &mut [u32; 320], numbers: &Numbers) -> Text {
         numbers.at(3) != 0,
         numbers.at(4),
         in_16_bits(tolerance),
-        &numbers::all(numbers.behind_slash(), in_16_bits),
+        samples.behind_slash(),
         &mut exposure,
         &mut lmax,
     );
@@ -279,7 +284,8 @@ fn land_class(numbers: &Numbers) -> Text {
 
 // Makes a call, told by its first letter, and hour from highest by the second.
 pub fn make(day: &mut [u32; 320], call: &[u8]) -> Text {
-    let numbers = numbers::read(call);
+    let mut numbers = Numbers::new();
+    numbers::read(call, &mut numbers);
     match call {
         [b'b', ..] => open_before(day, &numbers),
         [b't', ..] => open_terminal(day, &numbers),

@@ -1,8 +1,8 @@
 // The call `mixes` of a script, made through the function that C calls.
 use crate::calls;
 use script_text::answers::Text;
-use script_text::numbers;
 use script_text::numbers::{Numbers, in_16_bits};
+use script_text::words::Values;
 
 // No more numbers are lent: some more than a table may need.
 const MOST_LENT: usize = 16384;
@@ -18,12 +18,14 @@ fn used(classes: usize, measured: u32) -> usize {
 // mixes MEASURED LENT DAY FLIGHTS / NIGHT FLIGHTS: so many numbers are lent for the table
 pub fn mixes(numbers: &Numbers) -> Text {
     let measured = numbers.at(0);
-    let daytime = numbers.before_slash(2);
+    let mut flights = Values::new();
+    flights.take_all(numbers, in_16_bits);
+    let daytime = flights.before_slash(2);
     let mut room = [BEFORE; MOST_LENT];
     let mut count = BEFORE;
     let answer = c_planning::moatburdock_count_mixes(
-        &numbers::all(daytime, in_16_bits),
-        &numbers::all(numbers.behind_slash(), in_16_bits),
+        daytime,
+        flights.behind_slash(),
         measured,
         &mut room[..(numbers.at(1) as usize).min(MOST_LENT)],
         &mut count,

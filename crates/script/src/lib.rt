@@ -75,18 +75,21 @@ impl<'a, W: Write> Script<'a, W> {
 
     // Runs every line of the input, read through a buffer.
     fn run_lines<R: Read>(&mut self, input: &mut R, held: &mut [u8]) -> io::Result<()> {
-        let mut at = held.len();
-        let mut end = held.len();
+        let mut at = 0;
+        let mut end = 0;
         for _ in 0..MOST_LINES {
-            let rest = stream::hold_enough(input, held, at, end, LONGEST_LINE)?;
-            if rest.at == rest.end {
+            // A read that gave nothing is tried again: more may come from a terminal.
+            if end - at < LONGEST_LINE {
+                end = stream::refill(input, held, at, end)?;
+                at = 0;
+            }
+            if at == end {
                 break;
             }
-            let left = &held[rest.at..rest.end];
+            let left = &held[at..end];
             let length = judging::place_of(left, 0, b'\n');
             self.run_line(&left[..length])?;
-            at = rest.at + length + 1;
-            end = rest.end;
+            at = (at + length + 1).min(end);
         }
         Ok(())
     }

@@ -1,8 +1,8 @@
 // The call `pair` of a script, made through the function that C calls.
 use crate::calls;
 use script_text::answers::Text;
-use script_text::numbers;
 use script_text::numbers::Numbers;
+use script_text::words::Values;
 
 // No more marks are lent for a list: some more than a list may have entries.
 const MOST_MARKS: usize = 2048;
@@ -24,14 +24,16 @@ fn with_marks(text: Text, marks: &[u16]) -> Text {
 
 // pair TOLERANCE MARKS MARKS MOVEMENTS / PEAKS: so many marks are lent for the movements, and so many for the peaks
 pub fn pair(numbers: &Numbers) -> Text {
+    let mut times = Values::new();
+    times.take_all(numbers, u32::cast_signed);
     let mut movement_room = [BEFORE; MOST_MARKS];
     let mut peak_room = [BEFORE; MOST_MARKS];
     let movement_marks = &mut movement_room[..(numbers.at(1) as usize).min(MOST_MARKS)];
     let peak_marks = &mut peak_room[..(numbers.at(2) as usize).min(MOST_MARKS)];
     let mut count = 0;
     let answer = c_interface::moatburdock_pair_movements(
-        &numbers::all(numbers.before_slash(3), u32::cast_signed),
-        &numbers::all(numbers.behind_slash(), u32::cast_signed),
+        times.before_slash(3),
+        times.behind_slash(),
         numbers.at(0),
         movement_marks,
         peak_marks,

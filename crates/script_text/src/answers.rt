@@ -5,27 +5,34 @@ use std::fmt;
 use std::fmt::Display;
 use std::io::Write;
 
-// Some text. What does not fit is left out.
-#[derive(Drop)]
+// Some text: the bytes up to the count. What does not fit is left out.
+#[derive(Clone, Copy)]
 pub struct Text {
-    bytes: ArrayVec<u8, 128>,
+    pub bytes: [u8; 128],
+    pub count: usize,
 }
 
 impl Text {
     pub fn new() -> Text {
         Text {
-            bytes: ArrayVec::new(),
+            bytes: [0; 128],
+            count: 0,
         }
     }
 
     // The text with a word more.
     pub fn with<D: Display + Drop>(mut self, word: D) -> Text {
-        let _fits = write!(self.bytes, " {word}");
+        let mut more = ArrayVec::<u8, 128>::new();
+        let _fits = write!(more, " {word}");
+        let at = self.count.min(128);
+        let behind = at + more.len().min(128 - at);
+        self.bytes[at..behind].copy_from_slice(&more.as_slice()[..behind - at]);
+        self.count = behind;
         self
     }
 
     pub fn as_bytes(&self) -> &[u8] {
-        self.bytes.as_slice()
+        &self.bytes[..self.count.min(128)]
     }
 }
 

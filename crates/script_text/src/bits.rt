@@ -35,5 +35,7 @@ impl Word for Digits {
 pub fn read(call: &[u8]) -> Values<f64, MOST> {
     let mut words = call.splitn(2, |b| *b == b' ');
     words.next();
-    Values::read::<Digits>(words.next().unwrap_or(&[]))
+    let mut values = Values::new();
+    values.read::<Digits>(words.next().unwrap_or(&[]));
+    values
 }

@@ -1,7 +1,6 @@
 // The words of a line that are numbers in decimal, '-' as below scale or no Lmax, and 8000*3 as 8000 8000 8000. A number is held in 32 bits, a
 // negative one in two's complement.
 use crate::words::{Values, Word};
-use arrayvec::ArrayVec;
 
 // A call has at most this many numbers.
 pub const MOST: usize = 24016;
@@ -10,7 +9,7 @@ pub const MOST: usize = 24016;
 pub type Numbers = Values<u32, MOST>;
 
 // What '-' stands for among the numbers: below scale, as C has it, by its bits; or no Lmax.
-const NONE: u32 = 2147483648;
+pub const NONE: u32 = 2147483648;
 
 // What stands for no Lmax in C.
 pub const NO_LMAX: u32 = 4294967295;
@@ -75,8 +74,8 @@ impl Word for Number {
 }
 
 // Reads the numbers of a call.
-pub fn read(call: &[u8]) -> Numbers {
-    Values::read::<Number>(call)
+pub fn read(call: &[u8], numbers: &mut Numbers) {
+    numbers.read::<Number>(call);
 }
 
 // A number in 16 bits and in 8, at the most the largest.
@@ -91,17 +90,4 @@ pub fn in_8_bits(n: u32) -> u8 {
 // A number as an Lmax.
 pub fn lmax(n: u32) -> u32 {
     if n == NONE { NO_LMAX } else { n }
-}
-
-// Some numbers, each in another form.
-pub fn all<T: Default + Drop, F: Fn(u32) -> T>(numbers: &[u32], form: F) -> ArrayVec<T, MOST>
-    requires { F.IsAlwaysCallable form }
-{
-    let mut all = ArrayVec::new();
-    for number in numbers {
-        if all.try_push(form(*number)).is_err() {
-            break;
-        }
-    }
-    all
 }

@@ -23,6 +23,14 @@ pub struct Values<T: Drop, const N: usize> {
 }
 
 impl<T: Copy + Default + Drop, const N: usize> Values<T, N> {
+    // None so far.
+    pub fn new() -> Values<T, N> {
+        Values {
+            values: ArrayVec::new(),
+            slash: 0,
+        }
+    }
+
     // Puts a word behind those that are there.
     fn put<W: Word<Value = T>>(&mut self, word: W) {
         if let Some((value, times)) = word.value() {
@@ -35,26 +43,37 @@ impl<T: Copy + Default + Drop, const N: usize> Values<T, N> {
         }
     }
 
-    // Reads the values of a call.
-    pub fn read<W: Word<Value = T>>(call: &[u8]) -> Values<T, N> {
-        let mut read = Values {
-            values: ArrayVec::new(),
-            slash: 0,
-        };
+    // Reads the values of a call, into place: a copy of them is as large as the buffer of a line.
+    pub fn read<W: Word<Value = T>>(&mut self, call: &[u8]) {
         let mut word = W::begun(b' ');
         for byte in call {
             if let Some(longer) = word.longer(*byte) {
                 word = longer;
             } else {
-                read.put(word);
+                self.put(word);
                 if *byte == b'/' {
-                    read.slash = read.values.len();
+                    self.slash = self.values.len();
                 }
                 word = W::begun(*byte);
             }
         }
-        read.put(word);
-        read
+        self.put(word);
+    }
+
+    // Takes some values, each in another form, with the place of their '/'.
+    pub fn take_all<U: Copy + Default + Drop, F: Fn(U) -> T>(
+        &mut self,
+        values: &Values<U, N>,
+        form: F,
+    )
+        requires { F.IsAlwaysCallable form }
+    {
+        for value in values.all() {
+            if self.values.try_push(form(*value)).is_err() {
+                break;
+            }
+        }
+        self.slash = values.slash;
     }
 
     // The value at a place, 0 behind the end.

@@ -1,14 +1,14 @@
 -- What is known of rows that refusal 20 lets through: their numbers are not below zero and not too large, and their thrusts rise.
-use mathlib.Core.Path.{◌≡◌, sym, ◌∙◌}
+use mathlib.Core.Path.{◌≡◌, sym, ap, ◌∙◌}
 use mathlib.Core.Logic.{inl, inr}
-use mathlib.Core.Bool.{true, ◌&&◌}
+use mathlib.Core.Bool.{Bool, true, ◌&&◌, and_assoc}
 use mathlib.Core.List.{List}
 use Prim.Native.Nat.{ℕ, zero, suc, ◌-◌, ◌*◌, ◌≤◌, ◌<◌}
 use native.Mathlib.Nat.{eq-or-lt_of_le, le_of_suc-le-suc, le_of_lt, le_refl}
 use native.Mathlib.Omega.{arith}
 use lib.Dec.{leb, lit≤}
 use lib.Ieee.Positive.{num, den, den_pos}
-use borrow.Author.Tests.{leb-true, ltb-true}
+use borrow.Author.Tests.{le-leb, leb-true, ltb-true}
 use Rattle.quantity.proofs.Tests.{both}
 use Rattle.floats.specs.Arithmetic.{float_of, within}
 use Rattle.floats.proofs.Nonnegative.{Nonnegative, lt_is, through_lt}
@@ -16,7 +16,7 @@ use Rattle.floats.proofs.Ranges.{up_to_nonnegative, up_to_most}
 use Rattle.floats.proofs.Bounded.{AtMost, of_nonnegative}
 use Rattle.thrust.specs.Rows.{row_at, every, in_range, rises, fit}
 use Rattle.thrust.specs.declared.Row.{Row}
-use Rattle.thrust.proofs.Walking.{every_at}
+use Rattle.thrust.proofs.Walking.{step, every_at, every_both}
 
 -- ---- a row in range
 
@@ -57,6 +57,18 @@ fit_rows rows count h =
 
 pub two_rows : (rows : List Row) (count : ℕ) → fit rows count ≡ true → 2 ≤ count
 two_rows rows count h = (fit_rows rows count h).some_rows
+
+-- in one walk: the last row in range, and each other in range with its thrust below the next one
+abbrev pub comes_before : List Row → ℕ → Bool
+comes_before rows k = in_range (row_at rows k) && rises rows k
+
+pub fit_in_one : (rows : List Row) (count : ℕ) → 2 ≤ count → count ≤ 32 → fit rows count ≡ in_range (row_at rows (count - 1)) && every (comes_before rows) (count - 1)
+unfolding fit
+fit_in_one rows count h k =
+    let inside : ℕ → Bool = λ j. in_range (row_at rows j) in
+    rw (le-leb 2 count h, le-leb count 32 k, step inside count (omega arith))
+    (and_assoc (inside (count - 1)) (every inside (count - 1)) (every (rises rows) (count - 1))
+    ∙ ap (λ (b : Bool). inside (count - 1) && b) (sym (every_both inside (rises rows) (count - 1))))
 
 module _ (rows : List Row) (count : ℕ) (t : Fit rows count) where
   pub last_place : count - 1 < count

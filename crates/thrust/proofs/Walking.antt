@@ -2,12 +2,13 @@
 use Prim.Native.Nat.{ℕ, zero, suc, ◌-◌, ◌≤◌, ◌<◌}
 use mathlib.Core.Path.{◌≡◌, refl, sym, ap, ◌∙◌}
 use mathlib.Core.Bool.{Bool, true, false, cond, ◌&&◌}
-use mathlib.Core.List.{List, [], ◌∷◌}
+use mathlib.Core.List.{List, [], ◌∷◌, reverse, reverse-cons}
 use mathlib.Core.Logic.{inl, inr}
 use native.Mathlib.Nat.{eq-or-lt_of_le, le_of_suc-le-suc}
 use native.Mathlib.Omega.{arith}
 use native.Mathlib.Numerals.{add-one, sub-one}
 use lib.ListN.{length}
+use Rattle.std.proofs.lemmas.List.Folds.{list_all-append}
 use Rattle.std.proofs.lemmas.Bool.{true≢false}
 use Rattle.std.specs.List.{list_all, IsAllAdjacentAnswer}
 use lib.Ieee.{Float, le, lt}
@@ -15,6 +16,12 @@ use Rattle.quantity.proofs.Tests.{test, both}
 use Rattle.thrust.specs.Rows.{row_at, every, rises, lower_place}
 use Rattle.thrust.specs.Laws.{LastAtMost, LowerIsLast}
 use Rattle.thrust.specs.declared.Row.{Row}
+
+back : (a b : Bool) → (a && (b && true)) ≡ (b && a)
+back true true = refl
+back true false = refl
+back false true = refl
+back false false = refl
 
 swap : (a b c : Bool) → (a && (b && c)) ≡ (b && (a && c))
 swap true b c = refl
@@ -24,6 +31,11 @@ swap false false c = refl
 -- ---- a test at each place
 
 module _ (p : ℕ → Bool) where
+  pub step : (n : ℕ) → 0 < n → every p n ≡ p (n - 1) && every p (n - 1)
+  unfolding every
+  step zero h = absurd (omega arith)
+  step (suc n) h = rw (sub-one (suc n))
+
   pub every_at : (n : ℕ) → every p n ≡ true → (k : ℕ) → k < n → p k ≡ true
   unfolding every
   every_at zero h k l = absurd (omega arith)
@@ -47,11 +59,30 @@ module _ (p : ℕ → Bool) where
   every_front zero = refl
   every_front (suc n) = rw (every_front n) (swap (p (suc n)) (p 0) (every (λ k. p (suc k)) n))
 
+both_parts : (a b c d : Bool) → (a && b) && (c && d) ≡ (a && c) && (b && d)
+both_parts true true c d = refl
+both_parts true false true d = refl
+both_parts true false false d = refl
+both_parts false b c d = refl
+
+-- two tests in one walk
+pub every_both : (p q : ℕ → Bool) (n : ℕ) → every (λ k. p k && q k) n ≡ every p n && every q n
+unfolding every
+every_both p q zero = refl
+every_both p q (suc n) = ap (λ (b : Bool). (p n && q n) && b) (every_both p q n) ∙ both_parts (p n) (q n) (every p n) (every q n)
+
 -- a test of each row, and of each row and the next
 pub every_row : (q : Row → Bool) (rows : List Row) → list_all q rows ≡ every (λ k. q (row_at rows k)) (length rows)
 unfolding every
 every_row q [] = refl
 every_row q (row ∷ rows) = ap (λ (b : Bool). q row && b) (every_row q rows) ∙ sym (every_front (λ k. q (row_at (row ∷ rows) k)) (length rows))
+
+-- from the back it is the same
+pub every_row_back : (q : Row → Bool) (rows : List Row) → list_all q (reverse rows) ≡ every (λ k. q (row_at rows k)) (length rows)
+every_row_back q rows = go rows ∙ every_row q rows where
+  go : (rows : List Row) → list_all q (reverse rows) ≡ list_all q rows
+  go [] = refl
+  go (row ∷ rows) = ap (list_all q) (reverse-cons row rows) ∙ list_all-append q (reverse rows) (row ∷ []) ∙ rw (go rows) (back (list_all q rows) (q row))
 
 pub every_next : (rows : List Row) (r : Bool) → IsAllAdjacentAnswer (λ x y b. b ≡ lt x.thrust y.thrust) rows r → r ≡ every (rises rows) (length rows - 1)
 every_next rows true h = sym (every_shown (rises rows) (length rows - 1) (λ k l. sym (rw add-one at (h k (row_at [] 0) (omega arith)))))

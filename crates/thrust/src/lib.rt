@@ -23,11 +23,11 @@ fn is_in_range(row: Row) -> bool
     floats::is_within(0.0, 1000.0, row.thrust) && floats::is_within(0.0, 140.0, row.level)
 }
 
-// Whether each row is in range.
+// Whether each row is in range, the last one first.
 fn are_in_range(rows: &[Row]) -> bool
     ensures { result ≡ every (λ k. in_range (row_at rows.now k)) (length rows.now) }
 {
-    rows.iter().all(|row| is_in_range(*row))
+    rows.iter().rev().all(|row| is_in_range(*row))
 }
 
 // Whether each thrust is below the next one.
@@ -42,7 +42,7 @@ fn thrusts_rise(rows: &[Row]) -> bool
 fn are_fit(rows: &[Row]) -> bool
     ensures { result ≡ fit rows.now (length rows.now) }
 {
-    2 <= rows.len() && rows.len() <= MOST_ROWS && are_in_range(rows) && thrusts_rise(rows)
+    2 <= rows.len() && rows.len() <= MOST_ROWS && thrusts_rise(rows) && are_in_range(rows)
 }
 
 // The place of the lower row: the last whose thrust is at most the given one.
