@@ -47,5 +47,8 @@ module _ (movements peaks : List ℤ) {i j : ℕ} (i_there : i < length movement
   pub earlier_at : lt_z (read (get_or movements i (pos 0))) (read (get_or peaks j (pos 0))) ≡ ltb (get_or (instants movements) i 0) (get_or (instants peaks) j 0)
   earlier_at = rw (to_z-of_z {w = w32} m, to_z-of_z {w = w32} p, at_place movements i i_there, at_place peaks j j_there) (in_order _ _ m p)
 
+  pub apart_at : nat_abs (read (get_or movements i (pos 0)) -ℤ read (get_or peaks j (pos 0))) ≡ distance (get_or (instants movements) i 0) (get_or (instants peaks) j 0)
+  apart_at = rw (to_z-of_z {w = w32} m, to_z-of_z {w = w32} p, at_place movements i i_there, at_place peaks j j_there) (apart _ _ m p)
+
   pub distance_at : distance (ticks_of (read (get_or movements i (pos 0)))) (ticks_of (read (get_or peaks j (pos 0)))) ≡ distance (get_or (instants movements) i 0) (get_or (instants peaks) j 0)
   distance_at = rw (to_z-of_z {w = w32} m, to_z-of_z {w = w32} p, at_place movements i i_there, at_place peaks j j_there) refl

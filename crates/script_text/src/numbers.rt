@@ -1,6 +1,7 @@
 // The words of a line that are numbers in decimal, '-' as below scale or no Lmax, and 8000*3 as 8000 8000 8000. A number is held in 32 bits, a
 // negative one in two's complement.
 use crate::words::{Values, Word};
+use arrayvec::ArrayVec;
 
 // A call has at most this many numbers.
 pub const MOST: usize = 24016;
@@ -90,4 +91,45 @@ pub fn in_8_bits(n: u32) -> u8 {
 // A number as an Lmax.
 pub fn lmax(n: u32) -> u32 {
     if n == NONE { NO_LMAX } else { n }
+}
+
+// Some numbers, each in another form.
+pub fn all<T: Default + Drop, F: Fn(u32) -> T>(numbers: &[u32], form: F) -> ArrayVec<T, MOST>
+    requires { F.IsAlwaysCallable form }
+{
+    let mut all = ArrayVec::new();
+    for number in numbers {
+        if all.try_push(form(*number)).is_err() {
+            break;
+        }
+    }
+    all
+}
+
+#[cfg(test)]
+mod tests {
+    use super::*;
+
+    #[test]
+    fn each_number_in_another_form(rt: HostRuntime) {
+        let all = all(&[7, 65535, 65536, 0], in_16_bits);
+        assert_eq!(rt; all.as_slice(), [7u16, 65535, 65535, 0].as_slice());
+    }
+
+    #[test]
+    fn of_no_numbers_none(rt: HostRuntime) {
+        let all = all(&[], u32::cast_signed);
+        assert!(rt; all.is_empty());
+    }
+
+    #[test]
+    fn as_many_as_there_is_room_for(rt: HostRuntime) {
+        let mut numbers = [3; MOST + 1];
+        numbers[0] = 2;
+        numbers[MOST] = 4;
+        let all = all(&numbers, in_8_bits);
+        assert_eq!(rt; all.len(), MOST);
+        assert_eq!(rt; all.as_slice().first(), Some(&2));
+        assert_eq!(rt; all.as_slice().last(), Some(&3));
+    }
 }
